@@ -1,0 +1,4 @@
+pub mod ListLaws
+pub mod NumberLaws
+pub mod CopyLaws
+pub mod OneAnswer

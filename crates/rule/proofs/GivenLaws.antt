@@ -1,0 +1,489 @@
+-- Each of the conditions 5 to 10, and what it says of the drawing: sound exactly when no cell or pair has the fault, and refused with
+-- its places exactly when those are the first. Assumes nothing.
+use Prim.Native.Nat.{ℕ, _-_, _≤_, _<_}
+use native.Mathlib.Omega.{arith}
+use mathlib.Core.Path.{_≡_, refl, sym, ap, _∙_}
+use mathlib.Core.Bool.{Bool, true, _&&_}
+use mathlib.Core.List.{[], _∷_}
+use mathlib.Core.Logic.{_⊎_, inl, inr, ⊎-elim, _↔_}
+use lib.ListN.{length, drop}
+use lib.Dec.{leb}
+use borrow.Author.Tests.{leb-true, le-leb}
+use Rattle.rule.specs.Sets.{has, isEmpty, namesPast}
+use Rattle.rule.specs.Reach.{Closed}
+use Rattle.rule.specs.Drawing.{Drawing, states, events, count, initial, next, pairAt, stateNo, eventNo}
+use Rattle.rule.specs.Operations.{reachOf}
+use Rattle.rule.specs.Stopping.{stopsBy}
+use Rattle.rule.specs.Classes.{movesInto, movesOut, forbids, forbidsSome}
+use Rattle.rule.specs.Published.{In, Out}
+use Rattle.rule.specs.Refusals.{refuseIf, firstBelow, firstCell, toldOf, entryAt, entries, memberAt, members, exceeds, excess, moveAt, moves, stopAt, stopped, emptyAt, empties, firstOf, conditions}
+use Rattle.rule.specs.Given.{FirstCell, LowestPair, NoCell, NoPair, BadEntry, Names, BadPair, BadSide, by-R, only-P, BadMember, TooMuch, with-R, with-P, Forbidden, into-P, out-of-R, StopsBy, BothEmpty, Passed, none, past-5, past-6, past-7, past-8, past-9, past-10, Given, given-5, given-6, given-7, given-8, given-9, given-10}
+use Rattle.rule.specs.declared.Pair.{Pair}
+use Rattle.rule.specs.declared.Refusal.{Refusal}
+use Rattle.rule.specs.declared.Refusal.the-variants.{Entry, Member, Excess, Move, Stopping, Empty}
+use Rattle.rule.specs.declared.Verdict.{Verdict}
+use Rattle.rule.specs.declared.Verdict.the-variants.{Sound, Refused}
+use Rattle.rule.proofs.BoolLaws.{clash, not-so, Says, itself, eq-says, and-says, or-says, not-says, ne-says, in-words}
+use Rattle.rule.proofs.SetLaws.{below-or, true-or, names-iff}
+use Rattle.rule.proofs.PairLaws.{Some, some-says}
+use Rattle.rule.proofs.StoppingLaws.{stops-says}
+use Rattle.rule.proofs.RefusalLaws.{sound-or, refuse-sound, refuse-refused, else-sound, below-sound-iff, below-refused-iff, cells-sound-iff, cells-refused-iff, first-hit, first-more, first-cases, first-none, first-one, first-sound, below-one, cells-one}
+
+-- a verdict that refuses exactly where there is the fault
+record Judges (v : Verdict) (Fault : Type 0) : Type 0 where
+  hits : (r : Refusal) → v ≡ Refused r → Fault
+  clears : v ≡ Sound → Fault → ⊥
+
+sound-of : {Fault : Type 0} (v : Verdict) → Judges v Fault → (Fault → ⊥) → v ≡ Sound
+sound-of v j n = sound-or v (λ p. p) (λ r p. absurd (n (j .hits r p)))
+
+by-test : {Fault : Type 0} (b : Bool) (r : Refusal) → (b ≡ true) ↔ Fault → Judges (refuseIf b r) Fault
+by-test b r i = record {
+  hits = λ s p. i .0 (refuse-refused b r s .0 p .0);
+  clears = λ p f. clash (i .1 f) (refuse-sound b r .0 p);
+}
+
+-- over the pairs
+module _ (d : Drawing) (f : ℕ → Verdict) (Fault : ℕ → Type 0) (judges : (i : ℕ) → i < count d → Judges (f i) (Fault i)) where
+  pairs-sound : (firstBelow f (count d) ≡ Sound) ↔ NoPair d Fault
+  pairs-sound = (
+    λ p i h. judges i h .clears (below-sound-iff f (count d) .0 p i h),
+    λ n. below-sound-iff f (count d) .1 (λ i h. sound-of (f i) (judges i h) (n i h)),
+  )
+
+  -- where r names the place
+  pairs-refused : (r : Refusal) (i : ℕ) → ((j : ℕ) → f j ≡ Refused r → j ≡ i)
+      → (firstBelow f (count d) ≡ Refused r) ↔ (LowestPair d Fault i × (f i ≡ Refused r))
+  pairs-refused r i place = (
+    λ p.
+        let g = below-refused-iff f (count d) r .0 p in
+        let here = place (g .at) (g .refused) in
+        let used : i < count d = omega arith in
+        let hit : f i ≡ Refused r = rw here at (g .refused) in (
+          record {
+            used = used;
+            fault = judges i used .hits r hit;
+            lower = λ j h. judges j (omega arith) .clears (g .earlier j (omega arith));
+          },
+          hit,
+        ),
+    λ p. below-refused-iff f (count d) r .1 (record {
+      at = i;
+      below = p .0 .used;
+      refused = p .1;
+      earlier = λ j h. sound-of (f j) (judges j (omega arith)) (p .0 .lower j h);
+    }),
+  )
+
+-- over the cells
+module _ (d : Drawing) (f : ℕ → ℕ → Verdict) (Fault : ℕ → ℕ → Type 0)
+    (judges : (s e : ℕ) → s < states d → e < events d → Judges (f s e) (Fault s e)) where
+  all-cells-sound : (firstCell f (states d) (events d) ≡ Sound) ↔ NoCell d Fault
+  all-cells-sound = (
+    λ p s e hs he. judges s e hs he .clears (cells-sound-iff f (events d) (states d) .0 p s e hs he),
+    λ n. cells-sound-iff f (events d) (states d) .1 (λ s e hs he. sound-of (f s e) (judges s e hs he) (n s e hs he)),
+  )
+
+  -- where r names the place
+  cell-refused : (r : Refusal) (s e : ℕ) → ((s′ e′ : ℕ) → f s′ e′ ≡ Refused r → (s′ ≡ s) × (e′ ≡ e))
+      → (firstCell f (states d) (events d) ≡ Refused r) ↔ (FirstCell d Fault s e × (f s e ≡ Refused r))
+  cell-refused r s e place = (
+    λ p.
+        let g = cells-refused-iff f (events d) (states d) r .0 p in
+        let here = place (g .state) (g .event) (g .refused) in
+        let hs : s < states d = omega arith in
+        let he : e < events d = omega arith in
+        let hit : f s e ≡ Refused r = rw (here .0, here .1) at (g .refused) in
+        let rows : (s′ e′ : ℕ) → s′ < s → e′ < events d → f s′ e′ ≡ Sound = rw (here .0) at (g .rows-before) in
+        let cells : (e′ : ℕ) → e′ < e → f s e′ ≡ Sound = rw (here .0, here .1) at (g .cells-before) in (
+          record {
+            state-in = hs;
+            event-in = he;
+            fault = judges s e hs he .hits r hit;
+            rows-before = λ s′ e′ h h′. judges s′ e′ (omega arith) h′ .clears (rows s′ e′ h h′);
+            cells-before = λ e′ h. judges s e′ hs (omega arith) .clears (cells e′ h);
+          },
+          hit,
+        ),
+    λ p. cells-refused-iff f (events d) (states d) r .1 (record {
+      state = s;
+      event = e;
+      state-in = p .0 .state-in;
+      event-in = p .0 .event-in;
+      refused = p .1;
+      rows-before = λ s′ e′ h h′. sound-of (f s′ e′) (judges s′ e′ (omega (arith, p .0 .state-in)) h′) (p .0 .rows-before s′ e′ h h′);
+      cells-before = λ e′ h. sound-of (f s e′) (judges s e′ (p .0 .state-in) (omega (arith, p .0 .event-in))) (p .0 .cells-before e′ h);
+    }),
+  )
+
+-- where a test decides and the refusal names the place
+module _ (d : Drawing) (test : ℕ → Bool) (name : ℕ → Refusal) (Fault : ℕ → Type 0)
+    (differ : (i j : ℕ) → name i ≡ name j → i ≡ j) (says : (i : ℕ) → i < count d → (test i ≡ true) ↔ Fault i) where
+  tested : (i : ℕ) → i < count d → Judges (refuseIf (test i) (name i)) (Fault i)
+  tested i h = by-test (test i) (name i) (says i h)
+
+  pair-tests-sound : (firstBelow (λ i. refuseIf (test i) (name i)) (count d) ≡ Sound) ↔ NoPair d Fault
+  pair-tests-sound = pairs-sound d (λ i. refuseIf (test i) (name i)) Fault tested
+
+  pair-tests-refused : (i : ℕ) → (firstBelow (λ i. refuseIf (test i) (name i)) (count d) ≡ Refused (name i)) ↔ LowestPair d Fault i
+  pair-tests-refused i =
+      let g = pairs-refused d (λ i. refuseIf (test i) (name i)) Fault tested (name i) i
+      (λ j p. differ j i (refuse-refused (test j) (name j) (name i) .0 p .1)) in
+      (λ p. g .0 p .0, λ l. g .1 (l, refuse-refused (test i) (name i) (name i) .1 (says i (l .used) .1 (l .fault), refl)))
+
+module _ (d : Drawing) (test : ℕ → ℕ → Bool) (name : ℕ → ℕ → Refusal) (Fault : ℕ → ℕ → Type 0)
+    (differ : (s e s′ e′ : ℕ) → name s e ≡ name s′ e′ → (s ≡ s′) × (e ≡ e′))
+    (says : (s e : ℕ) → s < states d → e < events d → (test s e ≡ true) ↔ Fault s e) where
+  cell-tested : (s e : ℕ) → s < states d → e < events d → Judges (refuseIf (test s e) (name s e)) (Fault s e)
+  cell-tested s e hs he = by-test (test s e) (name s e) (says s e hs he)
+
+  cell-tests-sound : (firstCell (λ s e. refuseIf (test s e) (name s e)) (states d) (events d) ≡ Sound) ↔ NoCell d Fault
+  cell-tests-sound = all-cells-sound d (λ s e. refuseIf (test s e) (name s e)) Fault cell-tested
+
+  cell-tests-refused : (s e : ℕ) → (firstCell (λ s e. refuseIf (test s e) (name s e)) (states d) (events d) ≡ Refused (name s e)) ↔ FirstCell d Fault s e
+  cell-tests-refused s e =
+      let g = cell-refused d (λ s e. refuseIf (test s e) (name s e)) Fault cell-tested (name s e) s e
+      (λ s′ e′ p. differ s′ e′ s e (refuse-refused (test s′ e′) (name s′ e′) (name s e) .0 p .1)) in (
+        λ p. g .0 p .0,
+        λ l. g .1 (l, refuse-refused (test s e) (name s e) (name s e) .1 (says s e (l .state-in) (l .event-in) .1 (l .fault), refl)),
+      )
+
+-- 5
+
+abbrev entryTest : Drawing → ℕ → ℕ → Bool
+entryTest d s e = leb (states d) (next d s e)
+
+entry-says : (d : Drawing) (s e : ℕ) → Says (entryTest d s e) (BadEntry d s e)
+entry-says d s e = (leb-true (states d) (next d s e), le-leb (states d) (next d s e))
+
+abbrev entryName : ℕ → ℕ → Refusal
+entryName s e = Entry (stateNo s) (eventNo e)
+
+entry-differ : (s e s′ e′ : ℕ) → entryName s e ≡ entryName s′ e′ → (s ≡ s′) × (e ≡ e′)
+entry-differ s e s′ e′ p = (ap (λ r. toldOf r .a) p, ap (λ r. toldOf r .b) p)
+
+no-bad-entry : (d : Drawing) → (entries d ≡ Sound) ↔ NoCell d (BadEntry d)
+unfolding entries
+no-bad-entry d = cell-tests-sound d (entryTest d) entryName (BadEntry d) entry-differ (λ s e hs he. entry-says d s e)
+
+pub entries-sound : (d : Drawing) → (entries d ≡ Sound) ↔ Closed (d .table) (states d) (events d)
+entries-sound d = (
+  λ p s e hs he. below-or (next d s e) (states d) (λ h. h) (λ h. absurd (no-bad-entry d .0 p s e hs he h)),
+  λ c. no-bad-entry d .1 (λ s e hs he b. omega (arith, c s e hs he)),
+)
+
+pub entries-refused : (d : Drawing) (s e : ℕ) → (entries d ≡ Refused (Entry (stateNo s) (eventNo e))) ↔ FirstCell d (BadEntry d) s e
+unfolding entries
+entries-refused d s e = cell-tests-refused d (entryTest d) entryName (BadEntry d) entry-differ (λ s e hs he. entry-says d s e) s e
+
+-- 6
+
+names-says : (n x : ℕ) → (namesPast n x ≡ true) ↔ Names n x
+names-says n x = (
+  λ p. let g = names-iff n x .0 p in record { state = g .0; past = g .1; member = g .2 },
+  λ g. names-iff n x .1 (g .state, g .past, g .member),
+)
+
+module _ (d : Drawing) (i : ℕ) where
+  abbrev pastR : Bool
+  pastR = namesPast (states d) (pairAt d i .r)
+
+  abbrev pastP : Bool
+  pastP = namesPast (states d) (pairAt d i .p)
+
+  member-by : (j side : ℕ) → memberAt d i ≡ Refused (Member j side) → (i ≡ j) × BadSide d i side
+  member-by j side p =
+      true-or pastR
+      (λ a.
+      let q : Refused (Member i 0) ≡ Refused (Member j side) = rw a at p in
+      let z : 0 ≡ side = cc in
+      (cc, rw (← z) (by-R (names-says (states d) (pairAt d i .r) .0 a))))
+      (λ a.
+      let t = refuse-refused pastP (Member i 1) (Member j side) .0 (rw a at p) in
+      let z : 1 ≡ side = ap (λ r. toldOf r .b) (t .1) in (
+        ap (λ r. toldOf r .a) (t .1),
+        rw (← z) (only-P (λ n. clash (names-says (states d) (pairAt d i .r) .1 n) a) (names-says (states d) (pairAt d i .p) .0 (t .0))),
+      ))
+
+  of-side : {side : ℕ} → BadSide d i side → memberAt d i ≡ Refused (Member i side)
+  of-side (by-R n) = rw (names-says (states d) (pairAt d i .r) .1 n)
+  of-side (only-P o n) =
+      rw (not-so pastR (λ a. o (names-says (states d) (pairAt d i .r) .0 a)), names-says (states d) (pairAt d i .p) .1 n)
+
+  member-judges : Judges (memberAt d i) (BadPair d i)
+  member-judges = record {
+    hits = λ r p. true-or pastR
+        (λ a. inl (names-says (states d) (pairAt d i .r) .0 a))
+        (λ a. inr (names-says (states d) (pairAt d i .p) .0 (refuse-refused pastP (Member i 1) r .0 (rw a at p) .0)));
+    clears = λ p f.
+        let both = else-sound (refuseIf pastR (Member i 0)) (refuseIf pastP (Member i 1)) .0 p in
+        ⊎-elim
+        (λ n. clash (names-says (states d) (pairAt d i .r) .1 n) (refuse-sound pastR (Member i 0) .0 (both .0)))
+        (λ n. clash (names-says (states d) (pairAt d i .p) .1 n) (refuse-sound pastP (Member i 1) .0 (both .1)))
+        f;
+  }
+
+pub members-sound : (d : Drawing) → (members d ≡ Sound) ↔ NoPair d (BadPair d)
+unfolding members
+members-sound d = pairs-sound d (memberAt d) (BadPair d) (λ i h. member-judges d i)
+
+pub members-refused : (d : Drawing) (i side : ℕ) → (members d ≡ Refused (Member i side)) ↔ BadMember d i side
+unfolding members
+members-refused d i side =
+    let g = pairs-refused d (memberAt d) (BadPair d) (λ i h. member-judges d i) (Member i side) i (λ j p. member-by d j i side p .0) in (
+      λ p. let l = g .0 p in record { lowest = l .0; by-side = member-by d i i side (l .1) .1 },
+      λ b. g .1 (b .lowest, of-side d i (b .by-side)),
+    )
+
+-- 7
+
+exceeds-says : (d : Drawing) → Says (exceeds d) (TooMuch d)
+unfolding exceeds isEmpty
+exceeds-says d =
+    in-words
+    (or-says
+    (and-says (eq-says (d .shape .class) 1) (ne-says (eq-says (pairAt d 0 .r) 0)))
+    (and-says (or-says (eq-says (d .shape .class) 2) (eq-says (d .shape .class) 4)) (ne-says (eq-says (pairAt d 0 .p) 0))))
+    (⊎-elim (λ b. with-R (b .0) (b .1)) (λ b. with-P (b .0) (b .1)))
+    back
+  where
+    back : TooMuch d → ((d .shape .class ≡ 1) × (pairAt d 0 .r ≡ 0 → ⊥)) ⊎ (((d .shape .class ≡ 2) ⊎ (d .shape .class ≡ 4)) × (pairAt d 0 .p ≡ 0 → ⊥))
+    back (with-R c n) = inl (c, n)
+    back (with-P c n) = inr (c, n)
+
+pub excess-sound : (d : Drawing) → (excess d ≡ Sound) ↔ (TooMuch d → ⊥)
+unfolding excess
+excess-sound d = (
+  λ p t. clash (exceeds-says d .1 t) (refuse-sound (exceeds d) Excess .0 p),
+  λ n. refuse-sound (exceeds d) Excess .1 (not-so (exceeds d) (λ p. n (exceeds-says d .0 p))),
+)
+
+pub excess-refused : (d : Drawing) → (excess d ≡ Refused Excess) ↔ TooMuch d
+unfolding excess
+excess-refused d = (
+  λ p. exceeds-says d .0 (refuse-refused (exceeds d) Excess Excess .0 p .0),
+  λ t. refuse-refused (exceeds d) Excess Excess .1 (exceeds-says d .1 t, refl),
+)
+
+-- 8
+
+abbrev ClassOf : Drawing → ℕ → Type 0
+ClassOf d c = d .shape .class ≡ c
+
+-- what the class forbids of a move from s to t for the pair
+data Forbids (d : Drawing) (p : Pair) (s t : ℕ) : Type 0 where
+  into : (ClassOf d 1 ⊎ ClassOf d 3) → Out (p .p) s → In (p .p) t → Forbids d p s t
+  out : (ClassOf d 2 ⊎ ClassOf d 3) → In (p .r) s → Out (p .r) t → Forbids d p s t
+
+forbids-says : (d : Drawing) (p : Pair) (s t : ℕ) → Says (forbids (d .shape .class) p s t) (Forbids d p s t)
+unfolding forbids movesInto movesOut
+forbids-says d p s t =
+    in-words
+    (or-says
+    (and-says (or-says (eq-says (d .shape .class) 1) (eq-says (d .shape .class) 3)) (and-says (not-says (has (p .p) s)) (itself (has (p .p) t))))
+    (and-says (or-says (eq-says (d .shape .class) 2) (eq-says (d .shape .class) 3)) (and-says (itself (has (p .r) s)) (not-says (has (p .r) t)))))
+    (⊎-elim (λ b. into (b .0) (b .1 .0) (b .1 .1)) (λ b. out (b .0) (b .1 .0) (b .1 .1)))
+    back
+  where
+    back : Forbids d p s t → ((ClassOf d 1 ⊎ ClassOf d 3) × (Out (p .p) s × In (p .p) t)) ⊎ ((ClassOf d 2 ⊎ ClassOf d 3) × (In (p .r) s × Out (p .r) t))
+    back (into c a b) = inl (c, (a, b))
+    back (out c a b) = inr (c, (a, b))
+
+abbrev moveTest : Drawing → ℕ → ℕ → Bool
+moveTest d s e = forbidsSome (d .shape .class) (d .pairs) s (next d s e)
+
+abbrev moveName : ℕ → ℕ → Refusal
+moveName s e = Move (stateNo s) (eventNo e)
+
+move-differ : (s e s′ e′ : ℕ) → moveName s e ≡ moveName s′ e′ → (s ≡ s′) × (e ≡ e′)
+move-differ s e s′ e′ p = (ap (λ r. toldOf r .a) p, ap (λ r. toldOf r .b) p)
+
+module _ (d : Drawing) (whole : length (d .pairs) ≡ count d) where
+  forbidden-says : (s e : ℕ) → Says (moveTest d s e) (Forbidden d s e)
+  unfolding forbidsSome
+  forbidden-says s e =
+      in-words
+      (some-says (λ ps. forbidsSome (d .shape .class) ps s (next d s e)) (λ p. forbids (d .shape .class) p s (next d s e)) refl (λ p ps. refl)
+      (λ p. Forbids d p s (next d s e)) (λ p. forbids-says d p s (next d s e)) (d .pairs))
+      (λ g. to (g .0) (omega (arith, g .1)) (g .2))
+      back
+    where
+      to : (i : ℕ) → i < count d → Forbids d (pairAt d i) s (next d s e) → Forbidden d s e
+      to i h (into c a b) = into-P i h c a b
+      to i h (out c a b) = out-of-R i h c a b
+
+      back : Forbidden d s e → Some (λ p. Forbids d p s (next d s e)) (d .pairs)
+      back (into-P i h c a b) = (i, omega arith, into c a b)
+      back (out-of-R i h c a b) = (i, omega arith, out c a b)
+
+  pub moves-sound : (moves d ≡ Sound) ↔ NoCell d (Forbidden d)
+  unfolding moves
+  moves-sound =
+      cell-tests-sound d (moveTest d) moveName (Forbidden d) move-differ
+      (λ s e hs he. forbidden-says s e)
+
+  pub moves-refused : (s e : ℕ) → (moves d ≡ Refused (Move (stateNo s) (eventNo e))) ↔ FirstCell d (Forbidden d) s e
+  unfolding moves
+  moves-refused s e =
+      cell-tests-refused d (moveTest d) moveName (Forbidden d) move-differ
+      (λ s e hs he. forbidden-says s e) s e
+
+-- 9
+
+abbrev stopTest : Drawing → ℕ → Bool
+stopTest d i = stopsBy (pairAt d i) (reachOf d (initial d)) (initial d)
+
+module _ (d : Drawing) (closed : Closed (d .table) (states d) (events d)) (small : states d ≤ 64) (start : initial d < states d) where
+  stop-says : (i : ℕ) → Says (stopTest d i) (StopsBy d (initial d) i)
+  stop-says i =
+      in-words (stops-says d closed small (initial d) start (pairAt d i))
+      (λ g. record { outside = g .0; reaches-none = g .1 })
+      (λ g. (g .outside, g .reaches-none))
+
+  pub stopped-sound : (stopped d ≡ Sound) ↔ NoPair d (StopsBy d (initial d))
+  unfolding stopped
+  stopped-sound =
+      pair-tests-sound d (stopTest d) Stopping (StopsBy d (initial d))
+      (λ i j p. ap (λ r. toldOf r .a) p) (λ i h. stop-says i)
+
+  pub stopped-refused : (i : ℕ) → (stopped d ≡ Refused (Stopping i)) ↔ LowestPair d (StopsBy d (initial d)) i
+  unfolding stopped
+  stopped-refused i =
+      pair-tests-refused d (stopTest d) Stopping (StopsBy d (initial d))
+      (λ i j p. ap (λ r. toldOf r .a) p) (λ i h. stop-says i) i
+
+-- 10
+
+abbrev emptyTest : Drawing → ℕ → Bool
+emptyTest d i = isEmpty (pairAt d i .r) && isEmpty (pairAt d i .p)
+
+module _ (d : Drawing) where
+  empty-says : (i : ℕ) → Says (emptyTest d i) (BothEmpty d i)
+  unfolding isEmpty
+  empty-says i =
+      in-words (and-says (eq-says (pairAt d i .r) 0) (eq-says (pairAt d i .p) 0))
+      (λ g. record { no-R = g .0; no-P = g .1 })
+      (λ g. (g .no-R, g .no-P))
+
+  pub empties-sound : (empties d ≡ Sound) ↔ NoPair d (BothEmpty d)
+  unfolding empties
+  empties-sound =
+      pair-tests-sound d (emptyTest d) Empty (BothEmpty d)
+      (λ i j p. ap (λ r. toldOf r .a) p) (λ i h. empty-says i)
+
+  pub empties-refused : (i : ℕ) → (empties d ≡ Refused (Empty i)) ↔ LowestPair d (BothEmpty d) i
+  unfolding empties
+  empties-refused i =
+      pair-tests-refused d (emptyTest d) Empty (BothEmpty d)
+      (λ i j p. ap (λ r. toldOf r .a) p) (λ i h. empty-says i) i
+
+-- each condition by itself is sound
+pub conditions-sound : (d : Drawing) → firstOf (conditions d) ≡ Sound
+    → (entries d ≡ Sound) × (members d ≡ Sound) × (excess d ≡ Sound) × (moves d ≡ Sound) × (stopped d ≡ Sound) × (empties d ≡ Sound)
+conditions-sound d p0 =
+    let p1 = first-sound (entries d) _ .0 p0 in
+    let p2 = first-sound (members d) _ .0 (p1 .1) in
+    let p3 = first-sound (excess d) _ .0 (p2 .1) in
+    let p4 = first-sound (moves d) _ .0 (p3 .1) in
+    let p5 = first-sound (stopped d) _ .0 (p4 .1) in
+    let p6 = first-sound (empties d) _ .0 (p5 .1) in
+    (p1 .0, p2 .0, p3 .0, p4 .0, p5 .0, p6 .0)
+
+-- given exactly when
+
+-- the refusal of a test is the one that it names
+named : {A : Type 0} (b : Bool) (r s : Refusal) → (r ≡ s → A) → refuseIf b r ≡ Refused s → A
+named b r s f p = f (refuse-refused b r s .0 p .1)
+
+member-named : {A : Type 0} (d : Drawing) (i : ℕ) (r : Refusal) → ((side : ℕ) → Member i side ≡ r → A) → memberAt d i ≡ Refused r → A
+member-named d i r f p = true-or (pastR d i)
+    (λ a. named true (Member i 0) r (f 0) (rw a at p))
+    (λ a. named (pastP d i) (Member i 1) r (f 1) (rw a at p))
+
+module _ (d : Drawing) (whole : length (d .pairs) ≡ count d) (few : states d ≤ 64) (start : initial d < states d) where
+  -- from the conditions
+
+  closed : Passed d 9 → Closed (d .table) (states d) (events d)
+  closed (past-8 (past-7 (past-6 (past-5 none a) b) c) f) = entries-sound d .0 (no-bad-entry d .1 a)
+
+  module _ (r : Refusal) where
+    by-10 : Passed d 10 → empties d ≡ Refused r → Given d r
+    unfolding empties
+    by-10 past p = below-one (emptyAt d) (count d) r (λ i. named (emptyTest d i) (Empty i) r
+        (λ q. rw (← q) (given-10 past (empties-refused d i .0 (rw (← q) at p))))) p
+
+    by-9 : Passed d 9 → stopped d ≡ Refused r → Given d r
+    unfolding stopped
+    by-9 past p = below-one (stopAt d) (count d) r (λ i. named (stopTest d i) (Stopping i) r
+        (λ q. rw (← q) (given-9 past (stopped-refused d (closed past) few start i .0 (rw (← q) at p))))) p
+
+    by-8 : Passed d 8 → moves d ≡ Refused r → Given d r
+    unfolding moves
+    by-8 past p = cells-one (moveAt d) (states d) (events d) r (λ s e. named (moveTest d s e) (moveName s e) r
+        (λ q. rw (← q) (given-8 past (moves-refused d whole s e .0 (rw (← q) at p))))) p
+
+    by-7 : Passed d 7 → excess d ≡ Refused r → Given d r
+    unfolding excess
+    by-7 past p = named (exceeds d) Excess r (λ q. rw (← q) (given-7 past (excess-refused d .0 (rw (← q) at p)))) p
+
+    by-6 : Passed d 6 → members d ≡ Refused r → Given d r
+    unfolding members
+    by-6 past p = below-one (memberAt d) (count d) r (λ i. member-named d i r
+        (λ side q. rw (← q) (given-6 past (members-refused d i side .0 (rw (← q) at p))))) p
+
+    by-5 : entries d ≡ Refused r → Given d r
+    unfolding entries
+    by-5 p = cells-one (entryAt d) (states d) (events d) r (λ s e. named (entryTest d s e) (entryName s e) r
+        (λ q. rw (← q) (given-5 none (entries-refused d s e .0 (rw (← q) at p))))) p
+
+    from-10 : Passed d 10 → firstOf (empties d ∷ []) ≡ Refused r → Given d r
+    from-10 past p = by-10 past (sym (first-one (empties d)) ∙ p)
+
+    from-9 : Passed d 9 → firstOf (stopped d ∷ empties d ∷ []) ≡ Refused r → Given d r
+    from-9 past p = ⊎-elim (by-9 past)
+        (λ q. from-10 (past-9 past (stopped-sound d (closed past) few start .0 (q .0))) (q .1)) (first-cases (stopped d) _ r p)
+
+    from-8 : Passed d 8 → firstOf (moves d ∷ stopped d ∷ empties d ∷ []) ≡ Refused r → Given d r
+    from-8 past p = ⊎-elim (by-8 past) (λ q. from-9 (past-8 past (moves-sound d whole .0 (q .0))) (q .1)) (first-cases (moves d) _ r p)
+
+    from-7 : Passed d 7 → firstOf (excess d ∷ moves d ∷ stopped d ∷ empties d ∷ []) ≡ Refused r → Given d r
+    from-7 past p = ⊎-elim (by-7 past) (λ q. from-8 (past-7 past (excess-sound d .0 (q .0))) (q .1)) (first-cases (excess d) _ r p)
+
+    from-6 : Passed d 6 → firstOf (members d ∷ excess d ∷ moves d ∷ stopped d ∷ empties d ∷ []) ≡ Refused r → Given d r
+    from-6 past p = ⊎-elim (by-6 past) (λ q. from-7 (past-6 past (members-sound d .0 (q .0))) (q .1)) (first-cases (members d) _ r p)
+
+    from-5 : firstOf (conditions d) ≡ Refused r → Given d r
+    from-5 p = ⊎-elim by-5 (λ q. from-6 (past-5 none (no-bad-entry d .0 (q .0))) (q .1)) (first-cases (entries d) _ r p)
+
+  -- back to them
+
+  skip : {n : ℕ} → Passed d n → firstOf (conditions d) ≡ firstOf (drop (n - 5) (conditions d))
+  skip none = refl
+  skip (past-5 past a) = skip past ∙ first-more (entries d) _ (no-bad-entry d .1 a)
+  skip (past-6 past a) = skip past ∙ first-more (members d) _ (members-sound d .1 a)
+  skip (past-7 past a) = skip past ∙ first-more (excess d) _ (excess-sound d .1 a)
+  skip (past-8 past a) = skip past ∙ first-more (moves d) _ (moves-sound d whole .1 a)
+  skip (past-9 past a) = skip past ∙ first-more (stopped d) _ (stopped-sound d (closed past) few start .1 a)
+  skip (past-10 past a) = skip past ∙ first-more (empties d) _ (empties-sound d .1 a)
+
+  refused : {r : Refusal} → Given d r → firstOf (conditions d) ≡ Refused r
+  refused (given-5 {s = s} {e = e} past g) = skip past ∙ first-hit (entries d) _ _ (entries-refused d s e .1 g)
+  refused (given-6 {i = i} {side = side} past g) = skip past ∙ first-hit (members d) _ _ (members-refused d i side .1 g)
+  refused (given-7 past g) = skip past ∙ first-hit (excess d) _ _ (excess-refused d .1 g)
+  refused (given-8 {s = s} {e = e} past g) = skip past ∙ first-hit (moves d) _ _ (moves-refused d whole s e .1 g)
+  refused (given-9 {i = i} past g) = skip past ∙ first-hit (stopped d) _ _ (stopped-refused d (closed past) few start i .1 g)
+  refused (given-10 {i = i} past g) = skip past ∙ first-hit (empties d) _ _ (empties-refused d i .1 g)
+
+  -- each of the refusals 5 to 10 is given exactly when the paper says
+  pub given-iff : (r : Refusal) → (firstOf (conditions d) ≡ Refused r) ↔ Given d r
+  given-iff r = (from-5 r, refused)
+
+  -- and none is exactly when none of their conditions holds
+  pub sound-iff : (firstOf (conditions d) ≡ Sound) ↔ Passed d 11
+  sound-iff = (
+    λ p.
+        let g = conditions-sound d p in
+        let past : Passed d 9 = past-8 (past-7 (past-6 (past-5 none (no-bad-entry d .0 (g .0))) (members-sound d .0 (g .1))) (excess-sound d .0 (g .2))) (moves-sound d whole .0 (g .3)) in
+        past-10 (past-9 past (stopped-sound d (closed past) few start .0 (g .4))) (empties-sound d .0 (g .5)),
+    λ past. skip past ∙ first-none,
+  )

@@ -1,0 +1,25 @@
+-- sets of states, and what they reach
+pub mod SetLaws
+pub mod StepLaws
+pub mod MoveLaws
+pub mod CountLaws
+pub mod WayLaws
+pub mod ReachLaws
+-- refusals: which is first, when each is given, and their numbers
+pub mod BoolLaws
+pub mod RefusalLaws
+pub mod GivenLaws
+pub mod NumberLaws
+-- operations, stopping states and classes
+pub mod ValueLaws
+pub mod PairLaws
+pub mod OrderLaws
+pub mod StoppingLaws
+pub mod ClassLaws
+pub mod OperationLaws
+-- the published constructions
+pub mod PublishedLaws
+pub mod ConstructionLaws
+-- any two results that a promise allows are equal
+pub mod OneAnswerReach
+pub mod OneAnswerOperations

@@ -1,0 +1,23 @@
+-- Acceptance of a finite sequence of events.
+-- Assumes nothing.
+use Prim.Native.Nat.{ℕ}
+use mathlib.Core.Bool.{Bool, true, _&&_, _||_}
+use mathlib.Core.List.{List, [], _∷_}
+use Rattle.rule.specs.Sets.{has}
+use Rattle.rule.specs.Reach.{after}
+use Rattle.rule.specs.Drawing.{Drawing, next, initial}
+use Rattle.rule.specs.declared.Pair.{Pair}
+
+-- whether t lies in R or P of the pair
+unfoldable pub meetsPair : Pair → ℕ → Bool
+meetsPair p t = has (p .r) t || has (p .p) t
+
+-- whether t lies in R or P of every pair
+unfoldable pub meetsAll : List Pair → ℕ → Bool
+meetsAll [] t = true
+meetsAll (p ∷ ps) t = meetsPair p t && meetsAll ps t
+
+-- the empty sequence is accepted; any other when the state after its last event lies in R or P of every pair
+unfoldable pub accepts : Drawing → List ℕ → Bool
+accepts d [] = true
+accepts d (e ∷ w) = meetsAll (d .pairs) (after (next d) (next d (initial d) e) w)

@@ -1,0 +1,112 @@
+-- What each refusal from 5 to 10 says of the drawing, in plain words: "given exactly when" of the paper's table, with the places.
+-- Assumes nothing.
+use Prim.Native.Nat.{ℕ, _≤_, _<_}
+use mathlib.Core.Path.{_≡_}
+use mathlib.Core.Logic.{_⊎_}
+use Rattle.rule.specs.Drawing.{Drawing, states, events, count, initial, next, pairAt, stateNo, eventNo}
+use Rattle.rule.specs.Published.{In, Out, ReachesNone}
+use Rattle.rule.specs.declared.Refusal.{Refusal}
+use Rattle.rule.specs.declared.Refusal.the-variants.{Entry, Member, Excess, Move, Stopping, Empty}
+use Rattle.rule.specs.declared.Verdict.{Verdict}
+use Rattle.rule.specs.declared.Verdict.the-variants.{Sound, Refused}
+
+-- f refuses with r at some number below n, and nowhere earlier
+pub record FirstBelow (f : ℕ → Verdict) (n : ℕ) (r : Refusal) : Type 0 where
+  pub at : ℕ
+  pub below : at < n
+  pub refused : f at ≡ Refused r
+  pub earlier : (j : ℕ) → j < at → f j ≡ Sound
+
+-- f refuses with r at some cell of n states and k events, and nowhere earlier in row order
+pub record FirstRefused (f : ℕ → ℕ → Verdict) (n k : ℕ) (r : Refusal) : Type 0 where
+  pub state : ℕ
+  pub event : ℕ
+  pub state-in : state < n
+  pub event-in : event < k
+  pub refused : f state event ≡ Refused r
+  pub rows-before : (s e : ℕ) → s < state → e < k → f s e ≡ Sound
+  pub cells-before : (e : ℕ) → e < event → f state e ≡ Sound
+
+-- (s, e) is the first cell in row order with the fault
+pub record FirstCell (d : Drawing) (Fault : ℕ → ℕ → Type 0) (s e : ℕ) : Type 0 where
+  pub state-in : s < states d
+  pub event-in : e < events d
+  pub fault : Fault s e
+  pub rows-before : (s′ e′ : ℕ) → s′ < s → e′ < events d → Fault s′ e′ → ⊥
+  pub cells-before : (e′ : ℕ) → e′ < e → Fault s e′ → ⊥
+
+-- i is the lowest used pair with the fault
+pub record LowestPair (d : Drawing) (Fault : ℕ → Type 0) (i : ℕ) : Type 0 where
+  pub used : i < count d
+  pub fault : Fault i
+  pub lower : (j : ℕ) → j < i → Fault j → ⊥
+
+-- no cell has the fault; no used pair has it
+abbrev pub NoCell : Drawing → (ℕ → ℕ → Type 0) → Type 0
+NoCell d Fault = (s e : ℕ) → s < states d → e < events d → Fault s e → ⊥
+
+abbrev pub NoPair : Drawing → (ℕ → Type 0) → Type 0
+NoPair d Fault = (i : ℕ) → i < count d → Fault i → ⊥
+
+-- 5: the entry is N or more
+abbrev pub BadEntry : Drawing → ℕ → ℕ → Type 0
+BadEntry d s e = states d ≤ next d s e
+
+-- 6: the set names a state that is N or more; the pair does, by R or by P
+pub record Names (n x : ℕ) : Type 0 where
+  pub state : ℕ
+  pub past : n ≤ state
+  pub member : In x state
+
+abbrev pub BadPair : Drawing → ℕ → Type 0
+BadPair d i = Names (states d) (pairAt d i .r) ⊎ Names (states d) (pairAt d i .p)
+
+-- 0 if R does, 1 if only P
+pub data BadSide (d : Drawing) (i : ℕ) : ℕ → Type 0 where
+  by-R : Names (states d) (pairAt d i .r) → BadSide d i 0
+  only-P : (Names (states d) (pairAt d i .r) → ⊥) → Names (states d) (pairAt d i .p) → BadSide d i 1
+
+pub record BadMember (d : Drawing) (i side : ℕ) : Type 0 where
+  pub lowest : LowestPair d (BadPair d) i
+  pub by-side : BadSide d i side
+
+-- 7: class 1 with R not empty, class 2 or 4 with P not empty
+pub data TooMuch (d : Drawing) : Type 0 where
+  with-R : d .shape .class ≡ 1 → (pairAt d 0 .r ≡ 0 → ⊥) → TooMuch d
+  with-P : (d .shape .class ≡ 2) ⊎ (d .shape .class ≡ 4) → (pairAt d 0 .p ≡ 0 → ⊥) → TooMuch d
+
+-- 8: a used pair with a move from outside P into P in class 1 or 3, or from R out of R in class 2 or 3
+pub data Forbidden (d : Drawing) (s e : ℕ) : Type 0 where
+  into-P : (i : ℕ) → i < count d → (d .shape .class ≡ 1) ⊎ (d .shape .class ≡ 3)
+      → Out (pairAt d i .p) s → In (pairAt d i .p) (next d s e) → Forbidden d s e
+  out-of-R : (i : ℕ) → i < count d → (d .shape .class ≡ 2) ⊎ (d .shape .class ≡ 3)
+      → In (pairAt d i .r) s → Out (pairAt d i .r) (next d s e) → Forbidden d s e
+
+-- 9: q is outside P and reaches no state of R
+pub record StopsBy (d : Drawing) (q i : ℕ) : Type 0 where
+  pub outside : Out (pairAt d i .p) q
+  pub reaches-none : ReachesNone d (pairAt d i .r) q
+
+-- 10: R and P are both empty
+pub record BothEmpty (d : Drawing) (i : ℕ) : Type 0 where
+  pub no-R : pairAt d i .r ≡ 0
+  pub no-P : pairAt d i .p ≡ 0
+
+-- none of the conditions from 5 up to, and without, n holds
+pub data Passed (d : Drawing) : ℕ → Type 0 where
+  none : Passed d 5
+  past-5 : Passed d 5 → NoCell d (BadEntry d) → Passed d 6
+  past-6 : Passed d 6 → NoPair d (BadPair d) → Passed d 7
+  past-7 : Passed d 7 → (TooMuch d → ⊥) → Passed d 8
+  past-8 : Passed d 8 → NoCell d (Forbidden d) → Passed d 9
+  past-9 : Passed d 9 → NoPair d (StopsBy d (initial d)) → Passed d 10
+  past-10 : Passed d 10 → NoPair d (BothEmpty d) → Passed d 11
+
+-- the refusal is given: no condition before its own holds, and its own does, at its places
+pub data Given (d : Drawing) : Refusal → Type 0 where
+  given-5 : {s e : ℕ} → Passed d 5 → FirstCell d (BadEntry d) s e → Given d (Entry (stateNo s) (eventNo e))
+  given-6 : {i side : ℕ} → Passed d 6 → BadMember d i side → Given d (Member i side)
+  given-7 : Passed d 7 → TooMuch d → Given d Excess
+  given-8 : {s e : ℕ} → Passed d 8 → FirstCell d (Forbidden d) s e → Given d (Move (stateNo s) (eventNo e))
+  given-9 : {i : ℕ} → Passed d 9 → LowestPair d (StopsBy d (initial d)) i → Given d (Stopping i)
+  given-10 : {i : ℕ} → Passed d 10 → LowestPair d (BothEmpty d) i → Given d (Empty i)

@@ -1,0 +1,13 @@
+pub mod Sets
+pub mod Reach
+pub mod Drawing
+pub mod Acceptance
+pub mod Operations
+pub mod Stopping
+pub mod Classes
+pub mod Refusals
+pub mod Given
+pub mod Published
+pub mod Constructions
+pub mod WellDrawn
+pub mod Machine

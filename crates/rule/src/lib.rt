@@ -1,0 +1,120 @@
+// The drawn rule and what it means: document 01, "The rule", in types and in the few functions that everything else is made of.
+// specs/ has the meaning, a file for each heading of the paper; proofs/ has its laws.
+ghost use mathlib.Core.Path.{_≡_};
+ghost use Rattle.rule.specs.Refusals.{tell, toldOf};
+
+pub mod operations;
+pub mod reach;
+pub mod sets;
+
+// A state's number, and an event's code. Each is a type of its own, so that neither stands where the other is meant.
+pub struct StateNo(pub u8);
+
+pub struct EventNo(pub u8);
+
+// An accepting pair: the sets R and P, bit s for state s.
+pub struct Pair {
+    pub r: u64,
+    pub p: u64,
+}
+
+// The class, N, K, m and the initial state.
+pub struct Shape {
+    pub class: u8,
+    pub states: u8,
+    pub events: u8,
+    pub pairs: u8,
+    pub initial: StateNo,
+}
+
+// A rule by value: of the note the first `length` bytes are used, of the table the first N*K, of the pairs the first m.
+pub struct Rule {
+    pub shape: Shape,
+    pub length: usize,
+    pub note: [u8; 1024],
+    pub table: [u8; 2048],
+    pub pairs: [Pair; 8],
+}
+
+impl Rule {
+    // The limits of N, K and m.
+    pub const STATES: u8 = 64;
+
+    pub const EVENTS: u8 = 32;
+
+    pub const PAIRS: u8 = 8;
+}
+
+// What the monitor does at a move, rising.
+pub enum Operation {
+    Halt,
+    Store,
+    Dump,
+}
+
+// The refusals in the order of checking, with their places A and B where they have any. `toldOf` of specs/ gives each its number.
+pub enum Refusal {
+    Frame,
+    Class,
+    Range,
+    Distance,
+    Entry(StateNo, EventNo),
+    Member(u8, u8),
+    Excess,
+    Move(StateNo, EventNo),
+    Stopping(u8),
+    Empty(u8),
+    Sheet,
+    Run,
+    Code,
+    Cell(StateNo, EventNo),
+    Memory,
+    Room,
+}
+
+// What checking comes to.
+pub enum Verdict {
+    Sound,
+    Refused(Refusal),
+}
+
+// A refusal as the paper's table has it: its number and its places.
+pub struct Told {
+    pub number: u8,
+    pub a: u8,
+    pub b: u8,
+}
+
+impl Told {
+    fn new(number: u8, a: u8, b: u8) -> Self
+        ensures { λ r. ⌜ r ≡ tell number a b ⌝ }
+    {
+        Self { number, a, b }
+    }
+}
+
+impl Refusal {
+    // Its number and places.
+    pub fn told(self) -> Told
+        ensures { λ r. ⌜ r ≡ toldOf self ⌝ }
+    {
+        match self {
+            Refusal::Frame => Told::new(1, 0, 0),
+            Refusal::Class => Told::new(2, 0, 0),
+            Refusal::Range => Told::new(3, 0, 0),
+            Refusal::Distance => Told::new(4, 0, 0),
+            Refusal::Entry(s, e) => Told::new(5, s.0, e.0),
+            Refusal::Member(i, side) => Told::new(6, i, side),
+            Refusal::Excess => Told::new(7, 0, 0),
+            Refusal::Move(s, e) => Told::new(8, s.0, e.0),
+            Refusal::Stopping(i) => Told::new(9, i, 0),
+            Refusal::Empty(i) => Told::new(10, i, 0),
+            Refusal::Sheet => Told::new(11, 0, 0),
+            Refusal::Run => Told::new(12, 0, 0),
+            Refusal::Code => Told::new(13, 0, 0),
+            Refusal::Cell(s, e) => Told::new(14, s.0, e.0),
+            Refusal::Memory => Told::new(15, 0, 0),
+            Refusal::Room => Told::new(16, 0, 0),
+        }
+    }
+}
