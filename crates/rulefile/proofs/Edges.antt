@@ -1,0 +1,104 @@
+-- The edges of the paper that belong to rule files: N 64 and 65, a note of 1,024 and 1,025 bytes, the shortest file.
+-- Assumes nothing.
+use Prim.Native.Nat.{ℕ, _-_, _≤_, _<_}
+use native.Mathlib.Omega.{arith}
+use native.Mathlib.Nat.{one-le-mul}
+use mathlib.Core.Path.{_≡_, refl}
+use mathlib.Core.List.{List, [], _∷_}
+use lib.ListN.{length, replicate}
+use Rattle.octets.specs.Numbers.{valueOf, digits}
+use Rattle.rule.specs.Sets.{has, isEmpty, namesPast}
+use Rattle.rule.specs.Reach.{target}
+use Rattle.rule.specs.Classes.{movesInto, forbids, forbidsSome}
+use Rattle.rule.specs.Stopping.{stopsBy}
+use Rattle.rule.specs.Drawing.{stateNo}
+use Rattle.rule.specs.Refusals.{firstOf, firstBelow, firstCell, entries, members, exceeds, excess, moves, stopped, empties}
+use Rattle.rule.specs.declared.Shape.{Shape}
+use Rattle.rule.specs.declared.Refusal.the-variants.{Frame, Range, Distance}
+use Rattle.rule.specs.declared.Verdict.the-variants.{Sound, Refused}
+use Rattle.rule.proofs.SetLaws.{below-or}
+use Rattle.rulefile.specs.Layout.{trailerOf, trailerIn, tableBack, pairsBack, upTo, flatUpTo, drawingIn, framed, classed, ranged, placed, trailerOut, fileOf}
+use Rattle.rulefile.specs.Reading.{verdictOn, readingOf}
+use Rattle.rulefile.specs.Given.{under, over, bad-size, BadRange, bad-N, bad-K, bad-m, bad-initial, byte-5, not-one, BadDistance, to-table, to-pairs, short, note, NoneBefore, reading}
+use Rattle.rulefile.proofs.GivenLaws.{read-gives-1, read-gives-3, read-gives-4, read-sound}
+
+-- by computation, on the file of a rule of n states that stay where they are, with a note of k bytes
+
+unfoldable pub sample : ℕ → ℕ → List ℕ
+sample n k =
+    fileOf (record {
+      shape = record { class = 1; states = n; events = 1; pairs = 1; initial = stateNo 0 };
+      note = replicate k 0;
+      table = upTo (λ s. s) n;
+      pairs = record { r = 0; p = 1 } ∷ [];
+    })
+
+pub record Samples : Type 0 where
+  pub states-64 : readingOf (sample 64 0) .verdict ≡ Sound
+  pub states-65 : readingOf (sample 65 0) .verdict ≡ Refused Range
+  pub note-1024 : readingOf (sample 1 1024) .verdict ≡ Sound
+  pub note-1025 : readingOf (sample 1 1025) .verdict ≡ Refused Distance
+  pub shortest : readingOf (sample 1 0) .verdict ≡ Sound
+  pub bytes : length (sample 1 0) ≡ 29
+
+pub samples : Samples
+unfolding sample readingOf verdictOn fileOf firstOf firstBelow firstCell entries members exceeds excess moves stopped empties trailerOf drawingIn upTo flatUpTo framed classed ranged placed trailerOut valueOf digits has isEmpty namesPast target movesInto forbids forbidsSome stopsBy
+samples = record { states-64 = refl; states-65 = refl; note-1024 = refl; note-1025 = refl; shortest = refl; bytes = refl }
+
+-- of every file
+
+-- a shape with another N
+abbrev withStates : ℕ → Shape → Shape
+withStates n s = record { class = s .class; states = n; events = s .events; pairs = s .pairs; initial = s .initial }
+
+-- a shape that is in range still is with N 64
+pub in-range-64 : (s : Shape) (spare : ℕ) → (BadRange s spare → ⊥) → BadRange (withStates 64 s) spare → ⊥
+in-range-64 s spare o (bad-N (under h)) = omega arith
+in-range-64 s spare o (bad-N (over h)) = omega arith
+in-range-64 s spare o (bad-K h) = o (bad-K h)
+in-range-64 s spare o (bad-m h) = o (bad-m h)
+in-range-64 s spare o (bad-initial h) = below-or 64 (s .states) (λ k. o (bad-N (over k))) (λ k. o (bad-initial (omega arith)))
+in-range-64 s spare o (byte-5 h) = o (byte-5 h)
+in-range-64 s spare o (not-one c h) = o (not-one c h)
+
+module _ (f : List ℕ) where
+  abbrev shape : Shape
+  shape = trailerIn f .shape
+
+  -- N 65 is refused 3, where 1 and 2 are not given
+  pub refused-65 : shape .states ≡ 65 → NoneBefore 3 (reading f) → readingOf f .verdict ≡ Refused Range
+  unfolding drawingIn
+  refused-65 e n = read-gives-3 f .1 (n, bad-N (over (omega arith)))
+
+  -- the note: the bytes before the table
+  abbrev noteSize : ℕ
+  noteSize = length f - tableBack shape
+
+  -- a note of 1,024 is not refused 4, where the back distances are right
+  pub not-refused-1024 : noteSize ≡ 1024 → trailerIn f .table ≡ tableBack shape → trailerIn f .pairs ≡ pairsBack shape
+      → readingOf f .verdict ≡ Refused Distance → ⊥
+  not-refused-1024 e t p v = bad (read-gives-4 f .0 v .1)
+    where
+      bad : BadDistance (trailerIn f) (length f) → ⊥
+      bad (to-table n) = n t
+      bad (to-pairs n) = n p
+      bad (short h) = omega arith
+      bad (note h) = omega arith
+
+  -- one of 1,025 is, where 1 to 3 are not given
+  pub refused-1025 : noteSize ≡ 1025 → NoneBefore 4 (reading f) → readingOf f .verdict ≡ Refused Distance
+  refused-1025 e n = read-gives-4 f .1 (n, note (omega arith))
+
+  -- and a file that passes 3,212 bytes is refused 1
+  pub refused-3213 : 3212 < length f → readingOf f .verdict ≡ Refused Frame
+  refused-3213 h = read-gives-1 f .1 (bad-size (over h))
+
+  -- no file under 29 bytes is sound
+  pub at-least-29 : readingOf f .verdict ≡ Sound → 29 ≤ length f
+  unfolding drawingIn
+  at-least-29 v =
+      let no-row = read-sound f .0 v in
+      let N : 1 ≤ shape .states = below-or (shape .states) 1 (λ h. absurd (no-row Range (bad-N (under h)))) (λ h. h) in
+      let K : 1 ≤ shape .events = below-or (shape .events) 1 (λ h. absurd (no-row Range (bad-K (under h)))) (λ h. h) in
+      let m : 1 ≤ shape .pairs = below-or (shape .pairs) 1 (λ h. absurd (no-row Range (bad-m (under h)))) (λ h. h) in
+      below-or (length f) (tableBack shape) (λ h. absurd (no-row Distance (short h))) (λ h. omega (arith, one-le-mul N K))

@@ -1,0 +1,168 @@
+-- What the tests of the rows 1 to 4 say where they fail, in the words of the table; and what a row says that holds nowhere.
+-- Assumes nothing.
+use Prim.Native.Nat.{ℕ, zero, suc, _+_, _-_, _≤_, _<_}
+use native.Mathlib.Omega.{arith}
+use mathlib.Core.Path.{_≡_, refl, sym, ap, _∙_}
+use mathlib.Core.Bool.{Bool, true, false, not, _&&_, _||_}
+use mathlib.Core.List.{List}
+use mathlib.Core.Logic.{_⊎_, inl, inr, ⊎-elim, _↔_, Iff·trans}
+use lib.ListN.{length, getD}
+use lib.Seq.{getD-drop}
+use lib.Dec.{leb, ltb, eqb}
+use borrow.Author.Tests.{leb-false, lt-leb, ltb-false, le-ltb, eqb-false, ne-eqb, not-true}
+use Rattle.rule.specs.Drawing.{Drawing, states, events, count, pairAt}
+use Rattle.rule.specs.Refusals.{refuseIf}
+use Rattle.rule.specs.Given.{FirstCell, LowestPair, NoCell, NoPair, Names, BadPair, BadMember, by-R, only-P}
+use Rattle.rule.specs.declared.Shape.{Shape}
+use Rattle.rule.specs.declared.Refusal.{Refusal}
+use Rattle.rule.specs.declared.Verdict.the-variants.{Sound, Refused}
+use Rattle.rule.proofs.BoolLaws.{clash}
+use Rattle.rule.proofs.SetLaws.{below-or}
+use Rattle.rule.proofs.RefusalLaws.{not-both, refuse-refused}
+use Rattle.rulefile.specs.Layout.{framed, classed, ranged, placed, tableBack, pairsBack}
+use Rattle.rulefile.specs.Given.{Outside, under, over, trailerByte, BadFrame, bad-size, byte-10, byte-11, BadClass, BadRange, bad-N, bad-K, bad-m, bad-initial, byte-5, not-one, BadDistance, to-table, to-pairs, short, note}
+use Rattle.rulefile.specs.declared.Trailer.{Trailer}
+
+-- what a test says where it fails
+
+abbrev pub Fails : Bool → Type 0 → Type 0
+Fails t A = (t ≡ false) ↔ A
+
+-- the refusal by a test, and what passed it
+pub hits : {A : Type 0} {t : Bool} (x : Refusal) → Fails t A → (refuseIf (not t) x ≡ Refused x) ↔ A
+hits {A} {t} x f = (λ p. f .0 (not-true t (refuse-refused (not t) x x .0 p .0)), λ a. rw (f .1 a))
+
+pub passed : {A : Type 0} {t : Bool} (x : Refusal) → Fails t A → refuseIf (not t) x ≡ Sound → A → ⊥
+passed x f p a = not-both p (hits x f .1 a)
+
+pub le-fails : (x y : ℕ) → Fails (leb x y) (y < x)
+le-fails x y = (leb-false x y, lt-leb x y)
+
+lt-fails : (x y : ℕ) → Fails (ltb x y) (y ≤ x)
+lt-fails x y = (ltb-false x y, le-ltb x y)
+
+eq-fails : (x y : ℕ) → Fails (eqb x y) (x ≡ y → ⊥)
+eq-fails x y = (eqb-false x y, ne-eqb x y)
+
+and-fails : {A B : Type 0} {a b : Bool} → Fails a A → Fails b B → Fails (a && b) (A ⊎ B)
+and-fails {a = true} f g = (λ p. inr (g .0 p), ⊎-elim (λ x. clash refl (f .1 x)) (g .1))
+and-fails {a = false} f g = (λ p. inl (f .0 refl), λ x. refl)
+
+or-fails : {A B : Type 0} {a b : Bool} → Fails a A → Fails b B → Fails (a || b) (A × B)
+or-fails {a = true} f g = (λ p. clash refl p, λ x. f .1 (x .0))
+or-fails {a = false} f g = (λ p. (f .0 refl, g .0 p), λ x. g .1 (x .1))
+
+outside-fails : (lo hi x : ℕ) → Fails (leb lo x && leb x hi) (Outside lo hi x)
+outside-fails lo hi x =
+    Iff·trans (and-fails (le-fails lo x) (le-fails x hi)) (⊎-elim under over, λ o. elim o [ under h ↦ inl h | over h ↦ inr h ])
+
+-- out of range, or another test fails
+outside-or : {A : Type 0} {t : Bool} (lo hi x : ℕ) → Fails t A → Fails (leb lo x && (leb x hi && t)) (Outside lo hi x ⊎ A)
+outside-or {A} {t} lo hi x g = by (leb lo x) (outside-fails lo hi x)
+  where
+    by : (a : Bool) → Fails (a && leb x hi) (Outside lo hi x) → Fails (a && (leb x hi && t)) (Outside lo hi x ⊎ A)
+    by true f = and-fails f g
+    by false f = (λ p. inl (f .0 refl), λ o. refl)
+
+-- 1
+
+module _ (f : List ℕ) where
+  mark-at : (i k : ℕ) → 12 ≤ length f → i + k ≡ 12 → trailerByte f i ≡ getD f (length f - k) 0
+  mark-at i k h e = getD-drop (length f - 12) f i 0 ∙ ap (λ (j : ℕ). getD f j 0) (omega arith)
+
+  pub frame-fails : Fails (framed f) (BadFrame f)
+  unfolding framed
+  frame-fails =
+      Iff·trans
+      (outside-or 12 3212 (length f) (and-fails (eq-fails (getD f (length f - 2) 0) 72) (eq-fails (getD f (length f - 1) 0) 82))) (
+        λ p. below-or (length f) 12 (λ h. bad-size (under h)) (λ h. ⊎-elim bad-size (⊎-elim
+            (λ n. byte-10 (λ e. n (sym (mark-at 10 2 h (omega arith)) ∙ e)))
+            (λ n. byte-11 (λ e. n (sym (mark-at 11 1 h (omega arith)) ∙ e)))) p),
+        λ b. below-or (length f) 12 (λ h. inl (under h)) (λ h. elim b [
+          | bad-size o ↦ inl o
+          | byte-10 n ↦ inr (inl (λ e. n (mark-at 10 2 h (omega arith) ∙ e)))
+          | byte-11 n ↦ inr (inr (λ e. n (mark-at 11 1 h (omega arith) ∙ e)))
+        ]),
+      )
+
+-- 2 and 3
+
+-- a class that is not 3
+other-class : (c : ℕ) → (Outside 1 4 c → ⊥) → (c ≡ 3 → ⊥) → (c ≡ 1) ⊎ (c ≡ 2) ⊎ (c ≡ 4)
+other-class zero o n = absurd (o (under (omega arith)))
+other-class (suc zero) o n = inl refl
+other-class (suc (suc zero)) o n = inr (inl refl)
+other-class (suc (suc (suc zero))) o n = absurd (n refl)
+other-class (suc (suc (suc (suc zero)))) o n = inr (inr refl)
+other-class (suc (suc (suc (suc (suc c))))) o n = absurd (o (over (omega arith)))
+
+module _ (s : Shape) where
+  pub class-fails : Fails (classed s) (BadClass s)
+  unfolding classed
+  class-fails = outside-fails 1 4 (s .class)
+
+  pub range-fails : (spare : ℕ) → (BadClass s → ⊥) → Fails (ranged s spare) (BadRange s spare)
+  unfolding ranged
+  range-fails spare o =
+      Iff·trans
+      (outside-or 1 64 (s .states) (outside-or 1 32 (s .events) (outside-or 1 8 (s .pairs)
+      (and-fails (lt-fails (s .initial .0) (s .states)) (and-fails (eq-fails spare 0) (or-fails (eq-fails (s .class) 3) (eq-fails (s .pairs) 1))))))) (
+        ⊎-elim bad-N (⊎-elim bad-K (⊎-elim bad-m (⊎-elim bad-initial (⊎-elim byte-5 (λ p. not-one (other-class (s .class) o (p .0)) (p .1)))))),
+        λ b. elim b [
+          | bad-N h ↦ inl h
+          | bad-K h ↦ inr (inl h)
+          | bad-m h ↦ inr (inr (inl h))
+          | bad-initial h ↦ inr (inr (inr (inl h)))
+          | byte-5 h ↦ inr (inr (inr (inr (inl h))))
+          | not-one c h ↦ inr (inr (inr (inr (inr (λ e. ⊎-elim (λ k. omega arith) (⊎-elim (λ k. omega arith) (λ k. omega arith)) c, h)))))
+        ],
+      )
+
+-- 4
+
+pub distance-fails : (t : Trailer) (size : ℕ) → Fails (placed t size) (BadDistance t size)
+unfolding placed
+distance-fails t size =
+    Iff·trans
+    (and-fails (eq-fails (t .pairs) (pairsBack (t .shape))) (and-fails (eq-fails (t .table) (tableBack (t .shape)))
+    (and-fails (le-fails (tableBack (t .shape)) size) (le-fails (size - tableBack (t .shape)) 1024)))) (
+      ⊎-elim to-pairs (⊎-elim to-table (⊎-elim short note)),
+      λ b. elim b [ to-pairs h ↦ inl h | to-table h ↦ inr (inl h) | short h ↦ inr (inr (inl h)) | note h ↦ inr (inr (inr h)) ],
+    )
+
+-- a row that holds nowhere: where no cell is the first with a fault, no cell has it, and so for the pairs
+
+none-of : (P : ℕ → Type 0) → ((i : ℕ) → ((j : ℕ) → j < i → P j → ⊥) → P i → ⊥) → (i : ℕ) → P i → ⊥
+none-of P step i = below (suc i) i (omega arith)
+  where
+    below : (n j : ℕ) → j < n → P j → ⊥
+    below zero j h = absurd (omega arith)
+    below (suc n) j h = step j (λ k l. below n k (omega arith))
+
+module _ (d : Drawing) where
+  pub no-pair : (Fault : ℕ → Type 0) → ((i : ℕ) → LowestPair d Fault i → ⊥) → NoPair d Fault
+  no-pair Fault none i h x =
+      none-of (λ i. (i < count d) × Fault i)
+      (λ i lower p. none i (record { used = p .0; fault = p .1; lower = λ j k y. lower j k (omega (arith, p .0), y) }))
+      i (h, x)
+
+  pub no-cell : (Fault : ℕ → ℕ → Type 0) → ((s e : ℕ) → FirstCell d Fault s e → ⊥) → NoCell d Fault
+  no-cell Fault none s e hs he x =
+      none-of (λ s. (s < states d) × ((e : ℕ) × (e < events d) × Fault s e))
+      (λ s rows p.
+      none-of (λ e. (e < events d) × Fault s e)
+      (λ e cells q. none s e (record {
+        state-in = p .0;
+        event-in = q .0;
+        fault = q .1;
+        rows-before = λ s′ e′ k l y. rows s′ k (omega (arith, p .0), (e′, l, y));
+        cells-before = λ e′ k y. cells e′ k (omega (arith, q .0), y);
+      }))
+      (p .1 .0) (p .1 .1, p .1 .2))
+      s (hs, (e, he, x))
+
+  pub no-member : ((i side : ℕ) → BadMember d i side → ⊥) → NoPair d (BadPair d)
+  no-member none =
+      no-pair (BadPair d) (λ i l.
+      let not-R : Names (states d) (pairAt d i .r) → ⊥ = λ r. none i 0 (record { lowest = l; by-side = by-R r }) in
+      ⊎-elim not-R (λ p. none i 1 (record { lowest = l; by-side = only-P not-R p })) (l .fault))

@@ -1,0 +1,158 @@
+-- What a file that was found sound has: the facts that callers of `parts` and `read` need.
+-- Assumes nothing.
+use mathlib.Core.Path.{_≡_, refl, sym, ap, subst⁻¹, _∙_}
+use mathlib.Core.List.{List, [], _∷_, _++_}
+use mathlib.Core.Logic.{⊎-elim}
+use Prim.Native.Nat.{ℕ, zero, suc, _+_, _-_, _*_, _^_, _≤_, _<_}
+use native.Mathlib.Nat.{lt-of-lt-of-le, pow-le-pow-right, eq-or-lt-of-le, le-of-suc-le-suc, not-suc-le-zero}
+use native.Mathlib.Decide.{decLt}
+use native.Mathlib.Omega.{arith}
+use lib.Dec.{lit<}
+use lib.ListN.{length, getD, take, drop, length-take, length-drop, List·getD-eq-default}
+use lib.Seq.{length-take-le}
+use Rattle.octets.specs.Numbers.{Bytes, valueOf}
+use Rattle.octets.proofs.NumberLaws.{bytes-take, bytes-drop, valueOf-lt}
+use Rattle.octets.proofs.ListLaws.{part-length}
+use Rattle.rule.specs.Drawing.{Drawing, body, noPair, padded}
+use Rattle.rule.specs.Refusals.{firstOf, conditions}
+use Rattle.rule.proofs.RefusalLaws.{first-sound, append-more}
+use Rattle.rule.specs.declared.Pair.{Pair}
+use Rattle.rule.specs.declared.Shape.{Shape}
+use Rattle.rule.specs.declared.Refusal.{Refusal}
+use Rattle.rule.specs.declared.Refusal.the-variants.{Frame, Class, Range, Distance}
+use Rattle.rule.specs.declared.Verdict.{Verdict}
+use Rattle.rule.specs.declared.Verdict.the-variants.{Sound, Refused}
+use Rattle.rulefile.specs.Layout.{trailerIn, tableBack, pairsBack, pairIn, pairBytes, upTo, drawingIn}
+use Rattle.rulefile.specs.Reading.{verdictOn, partsBy, partsOf}
+use Rattle.rulefile.specs.declared.Contents.{Contents}
+use Rattle.rulefile.proofs.ListLaws.{length-upTo, getD-upTo, take-padded}
+use Rattle.rulefile.proofs.SoundLaws.{Framed, framed-says, Classed, classed-says, Ranged, ranged-says, Placed, placed-says, passed}
+
+-- what the ten conditions leave
+pub record SoundFile (f : List ℕ) : Type 0 where
+  pub framed : Framed f
+  pub classed : Classed (trailerIn f .shape)
+  pub ranged : Ranged (trailerIn f .shape) (trailerIn f .spare)
+  pub placed : Placed (trailerIn f) (length f)
+  pub sound : firstOf (conditions (drawingIn f)) ≡ Sound
+
+pub sound-file : (f : List ℕ) → verdictOn f ≡ Sound → SoundFile f
+unfolding verdictOn
+sound-file f e =
+    let a = first-sound _ _ .0 e in
+    let b = first-sound _ _ .0 (a .1) in
+    let c = first-sound _ _ .0 (b .1) in
+    let d = first-sound _ _ .0 (c .1) in
+    record {
+      framed = passed Frame (framed-says f) .0 (a .0);
+      classed = passed Class (classed-says (trailerIn f .shape)) .0 (b .0);
+      ranged = passed Range (ranged-says (trailerIn f .shape) (trailerIn f .spare)) .0 (c .0);
+      placed = passed Distance (placed-says (trailerIn f) (length f)) .0 (d .0);
+      sound = d .1;
+    }
+
+-- what is drawn in a sound file
+module _ (f : List ℕ) (s : SoundFile f) where
+  pub shape-drawn : drawingIn f .shape ≡ trailerIn f .shape
+  unfolding drawingIn
+  shape-drawn = refl
+
+  pub note-drawn : length (drawingIn f .note) ≡ length f - tableBack (trailerIn f .shape)
+  unfolding drawingIn
+  note-drawn = length-take-le (length f - tableBack (trailerIn f .shape)) f (omega arith)
+
+  pub table-drawn : length (drawingIn f .table) ≡ trailerIn f .shape .states * trailerIn f .shape .events
+  unfolding drawingIn
+  table-drawn =
+      let w = s .placed .within in
+      length-take-le (trailerIn f .shape .states * trailerIn f .shape .events) (drop (length f - tableBack (trailerIn f .shape)) f)
+      (rw length-drop (omega arith))
+
+  pub pairs-drawn : length (drawingIn f .pairs) ≡ trailerIn f .shape .pairs
+  unfolding drawingIn
+  pairs-drawn = length-upTo _ (trailerIn f .shape .pairs)
+
+  -- the numbers of each pair fit 64 bits
+  pub pairs-fit : Bytes f → (i : ℕ) → (getD (drawingIn f .pairs) i noPair .r < 2 ^ 64) × (getD (drawingIn f .pairs) i noPair .p < 2 ^ 64)
+  unfolding drawingIn
+  pairs-fit b i = fit (decLt i (trailerIn f .shape .pairs))
+    where
+      bytes : List ℕ
+      bytes = pairBytes (trailerIn f .shape) f
+
+      eight : (a : ℕ) → valueOf (take 8 (drop a bytes)) < 2 ^ 64
+      eight a =
+          let t = take 8 (drop a bytes) in
+          let all = bytes-take 8 (drop a bytes) (bytes-drop a bytes (bytes-take (16 * trailerIn f .shape .pairs) (drop (length f - pairsBack (trailerIn f .shape)) f) (bytes-drop (length f - pairsBack (trailerIn f .shape)) f b))) in
+          let few : length t ≤ 8 = rw length-take (omega arith) in
+          lt-of-lt-of-le (valueOf-lt t all) (pow-le-pow-right {n = 256} (lit< tt) few)
+
+      fit : Dec (i < trailerIn f .shape .pairs) → (getD (upTo (pairIn bytes) (trailerIn f .shape .pairs)) i noPair .r < 2 ^ 64) × (getD (upTo (pairIn bytes) (trailerIn f .shape .pairs)) i noPair .p < 2 ^ 64)
+      fit (yes h) = rw (getD-upTo (pairIn bytes) (trailerIn f .shape .pairs) i noPair h) (eight (16 * i), eight (16 * i + 8))
+      fit (no h) = rw (List·getD-eq-default (upTo (pairIn bytes) (trailerIn f .shape .pairs)) noPair {n = i} (rw length-upTo (omega arith))) (lit< tt, lit< tt)
+
+-- what looking at a sound file gives
+pub record SoundParts (f : List ℕ) (p : Contents) : Type 0 where
+  pub drawn : p .shape ≡ drawingIn f .shape
+  pub classed : Classed (p .shape)
+  pub ranged : Ranged (p .shape) 0
+  -- the note, the table, the pairs and the trailer stand one after the other
+  pub note-in : p .start ≤ 1024
+  pub table-ends : p .start + p .shape .states * p .shape .events ≡ p .end
+  pub pairs-end : p .end + 16 * p .shape .pairs + 12 ≡ length f
+  pub short : length f ≤ 3212
+  -- and are those of the drawing
+  pub note-is : take (p .start) f ≡ drawingIn f .note
+  pub table-is : take (p .end - p .start) (drop (p .start) f) ≡ drawingIn f .table
+  pub pairs-is : take (p .shape .pairs) (p .pairs) ≡ drawingIn f .pairs
+  pub pairs-padded : p .pairs ≡ padded 8 noPair (drawingIn f .pairs)
+  pub note-long : length (drawingIn f .note) ≡ p .start
+  pub table-long : length (drawingIn f .table) ≡ p .shape .states * p .shape .events
+  pub pairs-long : length (drawingIn f .pairs) ≡ p .shape .pairs
+  -- which has none of the faults 5 to 10
+  pub sound : firstOf (conditions (drawingIn f)) ≡ Sound
+
+-- the verdict that was found
+pub parts-verdict : (f : List ℕ) {p : Contents} → p ≡ partsOf f → p .verdict ≡ verdictOn f
+unfolding partsOf
+parts-verdict f e = ap (λ (p : Contents). p .verdict) e ∙ told (verdictOn f)
+  where
+    told : (v : Verdict) → partsBy v f .verdict ≡ v
+    told Sound = refl
+    told (Refused r) = refl
+
+pub parts-of-sound : (f : List ℕ) → verdictOn f ≡ Sound → partsOf f ≡ partsBy Sound f
+unfolding partsOf
+parts-of-sound f e = rw e
+
+parts-all : (f : List ℕ) → SoundFile f → SoundParts f (partsBy Sound f)
+unfolding drawingIn
+parts-all f s =
+    let h = trailerIn f .shape in
+    let w = s .placed .within in
+    let cells : length f - pairsBack h - (length f - tableBack h) ≡ h .states * h .events = between (length f) (16 * h .pairs) (h .states * h .events) w in
+    record {
+      drawn = refl;
+      classed = s .classed;
+      ranged = rw (s .ranged .spare-none) at (s .ranged);
+      note-in = s .placed .note-in;
+      table-ends = omega arith;
+      pairs-end = omega arith;
+      short = s .framed .short;
+      note-is = refl;
+      table-is = rw cells;
+      pairs-is = take-padded 8 noPair (drawingIn f .pairs) (h .pairs) (pairs-drawn f s);
+      pairs-padded = refl;
+      note-long = note-drawn f s;
+      table-long = table-drawn f s;
+      pairs-long = pairs-drawn f s;
+      sound = s .sound;
+    }
+  where
+    between : (n p k : ℕ) → 12 + p + k ≤ n → n - (12 + p) - (n - (12 + p + k)) ≡ k
+    between n p k h = omega arith
+
+pub sound-parts : (f : List ℕ) {p : Contents} → p ≡ partsOf f → p .verdict ≡ Sound → SoundParts f p
+sound-parts f e v =
+    let s = sym (parts-verdict f e) ∙ v in
+    subst⁻¹ (λ (p : Contents). SoundParts f p) (e ∙ parts-of-sound f s) (parts-all f (sound-file f s))

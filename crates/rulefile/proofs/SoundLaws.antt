@@ -1,0 +1,143 @@
+-- What a file or a rule has that passed a check: each condition 1 to 4 in plain words.
+-- Assumes nothing.
+use mathlib.Core.Path.{_≡_, refl, sym, ap, _∙_}
+use mathlib.Core.List.{List, [], _∷_, _++_}
+use mathlib.Core.Bool.{Bool, true, false, not, _&&_, _||_}
+use mathlib.Core.Logic.{_⊎_, _↔_}
+use Prim.Native.Nat.{ℕ, _+_, _-_, _*_, _≤_, _<_}
+use native.Mathlib.Nat.{mul-le-mul}
+use borrow.Author.Tests.{leb-true, le-leb, ltb-true, lt-ltb, not-false}
+use lib.Dec.{leb, ltb, eqb}
+use lib.ListN.{length, getD}
+use Rattle.rule.specs.Refusals.{refuseIf, firstOf}
+use Rattle.rule.proofs.BoolLaws.{Says, and-says, or-says, eq-says, in-words}
+use Rattle.rule.proofs.RefusalLaws.{refuse-sound, first-sound}
+use Rattle.rule.specs.declared.Shape.{Shape}
+use Rattle.rule.specs.declared.Refusal.{Refusal}
+use Rattle.rule.specs.declared.Refusal.the-variants.{Class, Range, Distance}
+use Rattle.rule.specs.declared.Verdict.{Verdict}
+use Rattle.rule.specs.declared.Verdict.the-variants.{Sound, Refused}
+use Rattle.rulefile.specs.Layout.{framed, classed, class, ranged, range, placed, distance, pairsBack, tableBack}
+use Rattle.rulefile.specs.Writing.{noted}
+use Rattle.rulefile.specs.declared.Trailer.{Trailer}
+
+pub le-says : (x y : ℕ) → Says (leb x y) (x ≤ y)
+le-says x y = (leb-true x y, le-leb x y)
+
+pub lt-says : (x y : ℕ) → Says (ltb x y) (x < y)
+lt-says x y = (ltb-true x y, lt-ltb x y)
+
+-- a condition that is refused where its test fails
+pub passed : (r : Refusal) {b : Bool} {A : Type 0} → Says b A → (refuseIf (not b) r ≡ Sound) ↔ A
+passed r {b} {A} s = (
+  λ e. s .0 (not-false b (refuse-sound (not b) r .0 e)),
+  λ x. rw (s .1 x),
+)
+
+-- 1: the length and the two marks
+pub record Framed (f : List ℕ) : Type 0 where
+  pub long : 12 ≤ length f
+  pub short : length f ≤ 3212
+  pub first-mark : getD f (length f - 2) 0 ≡ 72
+  pub last-mark : getD f (length f - 1) 0 ≡ 82
+
+pub framed-says : (f : List ℕ) → Says (framed f) (Framed f)
+unfolding framed
+framed-says f =
+    in-words (and-says (le-says _ _) (and-says (le-says _ _) (and-says (eq-says _ _) (eq-says _ _))))
+    (λ p. record { long = p .0; short = p .1 .0; first-mark = p .1 .1 .0; last-mark = p .1 .1 .1 })
+    (λ p. (p .long, (p .short, (p .first-mark, p .last-mark))))
+
+-- 2: class 1 to 4
+pub record Classed (s : Shape) : Type 0 where
+  pub low : 1 ≤ s .class
+  pub high : s .class ≤ 4
+
+pub classed-says : (s : Shape) → Says (classed s) (Classed s)
+unfolding classed
+classed-says s =
+    in-words (and-says (le-says _ _) (le-says _ _)) (λ p. record { low = p .0; high = p .1 }) (λ p. (p .low, p .high))
+
+-- 3: N, K and m in range, the initial state below N, byte 5 zero, and m 1 but in class 3
+pub record Ranged (s : Shape) (spare : ℕ) : Type 0 where
+  pub some-states : 1 ≤ s .states
+  pub states-in : s .states ≤ 64
+  pub some-events : 1 ≤ s .events
+  pub events-in : s .events ≤ 32
+  pub some-pairs : 1 ≤ s .pairs
+  pub pairs-in : s .pairs ≤ 8
+  pub initial-in : s .initial .0 < s .states
+  pub spare-none : spare ≡ 0
+  pub one-pair : (s .class ≡ 3) ⊎ (s .pairs ≡ 1)
+
+pub ranged-says : (s : Shape) (spare : ℕ) → Says (ranged s spare) (Ranged s spare)
+unfolding ranged
+ranged-says s spare =
+    in-words
+    (and-says (le-says _ _) (and-says (le-says _ _) (and-says (le-says _ _) (and-says (le-says _ _) (and-says (le-says _ _)
+    (and-says (le-says _ _) (and-says (lt-says _ _) (and-says (eq-says _ _) (or-says (eq-says _ _) (eq-says _ _))))))))))
+    (λ p.
+    record {
+      some-states = p .0;
+      states-in = p .1 .0;
+      some-events = p .1 .1 .0;
+      events-in = p .1 .1 .1 .0;
+      some-pairs = p .1 .1 .1 .1 .0;
+      pairs-in = p .1 .1 .1 .1 .1 .0;
+      initial-in = p .1 .1 .1 .1 .1 .1 .0;
+      spare-none = p .1 .1 .1 .1 .1 .1 .1 .0;
+      one-pair = p .1 .1 .1 .1 .1 .1 .1 .1;
+    })
+    (λ p. (p .some-states, (p .states-in, (p .some-events, (p .events-in, (p .some-pairs, (p .pairs-in, (p .initial-in, (p .spare-none, p .one-pair)))))))))
+
+-- 4: the distances are right, the file is as long as they say, and the note is not over 1,024
+pub record Placed (t : Trailer) (size : ℕ) : Type 0 where
+  pub pairs-is : t .pairs ≡ pairsBack (t .shape)
+  pub table-is : t .table ≡ tableBack (t .shape)
+  pub within : tableBack (t .shape) ≤ size
+  pub note-in : size - tableBack (t .shape) ≤ 1024
+
+pub placed-says : (t : Trailer) (size : ℕ) → Says (placed t size) (Placed t size)
+unfolding placed
+placed-says t size =
+    in-words (and-says (eq-says _ _) (and-says (eq-says _ _) (and-says (le-says _ _) (le-says _ _))))
+    (λ p. record { pairs-is = p .0; table-is = p .1 .0; within = p .1 .1 .0; note-in = p .1 .1 .1 })
+    (λ p. (p .pairs-is, (p .table-is, (p .within, p .note-in))))
+
+-- 2 to 4 of a file
+pub record Headed (t : Trailer) (size : ℕ) : Type 0 where
+  pub classed : Classed (t .shape)
+  pub ranged : Ranged (t .shape) (t .spare)
+  pub placed : Placed t size
+
+pub headed-sound : (t : Trailer) (size : ℕ) → firstOf (class (t .shape) ∷ range (t .shape) (t .spare) ∷ distance t size ∷ []) ≡ Sound → Headed t size
+headed-sound t size e =
+    let a = first-sound _ _ .0 e in
+    let b = first-sound _ _ .0 (a .1) in
+    let c = first-sound _ _ .0 (b .1) in
+    record {
+      classed = passed Class (classed-says (t .shape)) .0 (a .0);
+      ranged = passed Range (ranged-says (t .shape) (t .spare)) .0 (b .0);
+      placed = passed Distance (placed-says t size) .0 (c .0);
+    }
+
+-- 2 to 4 of a rule by value
+pub record Measured (s : Shape) (length : ℕ) : Type 0 where
+  pub classed : Classed s
+  pub ranged : Ranged s 0
+  pub note-in : length ≤ 1024
+
+pub measured-sound : (s : Shape) (length : ℕ) → firstOf (class s ∷ range s 0 ∷ noted length ∷ []) ≡ Sound → Measured s length
+measured-sound s length e =
+    let a = first-sound _ _ .0 e in
+    let b = first-sound _ _ .0 (a .1) in
+    let c = first-sound _ _ .0 (b .1) in
+    record {
+      classed = passed Class (classed-says s) .0 (a .0);
+      ranged = passed Range (ranged-says s 0) .0 (b .0);
+      note-in = passed Distance (le-says length 1024) .0 (c .0);
+    }
+
+-- the cells of a shape in range stand in a table of 2,048
+pub cells-in : {s : Shape} {spare : ℕ} → Ranged s spare → s .states * s .events ≤ 2048
+cells-in r = mul-le-mul (r .states-in) (r .events-in)

@@ -1,0 +1,36 @@
+-- `rulefile::layout::headed` meets its contract: one law for each return.
+-- Assumes nothing.
+use borrow.Author.Needs.{needs}
+use Rattle.rulefile.proofs.LayoutLaws.{third-told, third-refused, third-sound}
+use Rattle.rulefile.proofs.layout.headed.Statement.{statement}
+use Rattle.rulefile.proofs.layout.headed.Tie as tie
+use Rattle.rulefile.proofs.layout.headed.Reads as reads
+use Rattle.rulefile.proofs.layout.headed.Lts as lts
+use Rattle.rulefile.proofs.layout.placed.Reads as placed-reads
+use Rattle.rulefile.proofs.layout.shaped.Reads as shaped-reads
+
+shaped-requires : tie.Need-shaped-requires
+shaped-requires c κs = search needs
+
+enum-told : tie.Need-enum-told
+enum-told c = search needs
+
+enum-told-2 : tie.Need-enum-told-2
+enum-told-2 c = search needs
+
+returns : tie.Need-returns
+returns c = search (needs, third-told)
+
+placed-requires : tie.Need-placed-requires
+placed-requires c κs = search needs
+
+returns-2 : tie.Need-returns-2
+returns-2 c = search (needs, third-refused)
+
+returns-3 : tie.Need-returns-3
+returns-3 c = search (needs, third-sound)
+
+pub headed-spec : {M : Type 1} → statement M
+headed-spec =
+    tie.close
+    (tie.spec shaped-requires enum-told enum-told-2 returns placed-requires returns-2 returns-3)

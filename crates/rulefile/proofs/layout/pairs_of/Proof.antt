@@ -1,0 +1,127 @@
+-- `rulefile::layout::pairs_of` meets its contract: the pairs passed stand in front of empty ones.
+-- Assumes nothing.
+use Prim.Native.Nat.{ℕ, _+_, _-_, _*_, _≤_}
+use mathlib.Core.Path.{_≡_, refl, ap, _∙_}
+use mathlib.Core.List.{List}
+use native.Mathlib.Omega.{arith}
+use native.Mathlib.Numerals.{add-one}
+use lib.ListN.{take, drop}
+use Rattle.octets.specs.Numbers.{valueOf}
+use Rattle.octets.proofs.NumberLaws.{valueOf-part}
+use Rattle.rule.specs.Drawing.{noPair, padded}
+use Rattle.rulefile.specs.Layout.{upTo, pairIn}
+use Rattle.rulefile.proofs.ListLaws.{length-upTo, padded-more}
+use Rattle.rulefile.proofs.layout.pairs_of.Statement.{statement}
+use Rattle.rulefile.proofs.layout.pairs_of.Tie as tie
+use Rattle.rulefile.proofs.layout.pairs_of.Reads as reads
+use Rattle.rulefile.proofs.layout.pairs_of.Lts as lts
+use Rattle.octets.proofs.number.Reads as number-reads
+
+-- the number that eight bytes are
+pair-number : (s : List ℕ) (a e : ℕ) → e ≡ a + 8 → {x : ℕ} → x ≡ valueOf (take 8 (take (e - a) (drop a s))) → x ≡ valueOf (take 8 (drop a s))
+pair-number s a e h q =
+    let k : e - a ≡ 8 = omega arith in
+    q ∙ ap (λ (j : ℕ). valueOf (take 8 (take j (drop a s)))) k ∙ valueOf-part 8 (drop a s) (omega arith)
+
+abbrev Inv-loop : tie.InvT-loop
+Inv-loop bytes count pairs₀ end i₀ pairs i = (i ≤ end) × (end ≡ count) × (pairs ≡ padded 8 noPair (upTo (pairIn bytes) i))
+
+abbrev μ-loop : tie.MeasureT-loop
+μ-loop bytes count pairs₀ end i₀ pairs i = end - i
+
+loop-holds : tie.Need-loop-holds Inv-loop μ-loop
+unfolding upTo padded
+loop-holds c = (omega arith, refl, refl)
+
+mul-at : tie.Need-mul-at Inv-loop μ-loop
+mul-at c = omega arith
+
+add-number : tie.Need-add-number Inv-loop μ-loop
+add-number c = omega arith
+
+sub-number : tie.Need-sub-number Inv-loop μ-loop
+sub-number c = omega arith
+
+part-number-start : tie.Need-part-number-start Inv-loop μ-loop
+part-number-start c = omega arith
+
+part-number-end : tie.Need-part-number-end Inv-loop μ-loop
+part-number-end c = omega arith
+
+number-requires : tie.Need-number-requires Inv-loop μ-loop
+number-requires c κs = omega arith
+
+add-number-2 : tie.Need-add-number-2 Inv-loop μ-loop
+add-number-2 c = omega arith
+
+add-number-3 : tie.Need-add-number-3 Inv-loop μ-loop
+add-number-3 c = omega arith
+
+sub-number-2 : tie.Need-sub-number-2 Inv-loop μ-loop
+sub-number-2 c = omega arith
+
+part-number-start-2 : tie.Need-part-number-start-2 Inv-loop μ-loop
+part-number-start-2 c = omega arith
+
+part-number-end-2 : tie.Need-part-number-end-2 Inv-loop μ-loop
+part-number-end-2 c = omega arith
+
+number-requires-2 : tie.Need-number-requires-2 Inv-loop μ-loop
+number-requires-2 c κs = omega arith
+
+mul-pairs : tie.Need-mul-pairs Inv-loop μ-loop
+mul-pairs c = omega arith
+
+array-set-from-pairs : tie.Need-array-set-from-pairs Inv-loop μ-loop
+array-set-from-pairs c = omega arith
+
+add-i : tie.Need-add-i Inv-loop μ-loop
+add-i c = omega arith
+
+loop-less : tie.Need-loop-less Inv-loop μ-loop
+loop-less c = omega arith
+
+loop-again : tie.Need-loop-again Inv-loop μ-loop
+unfolding upTo
+loop-again c =
+    let l = c .before .before .before .before .before .loop in
+    let s = c .before .before .before .before .before .before .before .args .bytes .now in
+    let r = pair-number s (16 * l .i) (16 * l .i + 8) (omega arith) (c .before .before .number .ensures) in
+    let p = pair-number s (16 * l .i + 8) (16 * l .i + 16) (omega arith) (c .number2 .ensures) in (
+      omega arith,
+      l .inv .1,
+      rw (l .inv .2, r, p, add-one)
+          (padded-more 8 noPair (pairIn s (l .i)) (upTo (pairIn s) (l .i)) (l .i) (length-upTo (pairIn s) (l .i)) (omega arith)),
+    )
+
+returns : tie.Need-returns Inv-loop μ-loop
+returns c =
+    let l = c .before .loop in
+    let m : l .i ≡ c .before .before .before .args .count = omega arith in
+    rw (l .inv .2, m)
+
+pub pairs-of-spec : {M : Type 1} → statement M
+pairs-of-spec =
+    tie.close
+    (tie.spec
+    Inv-loop
+    μ-loop
+    loop-holds
+    mul-at
+    add-number
+    sub-number
+    part-number-start
+    part-number-end
+    number-requires
+    add-number-2
+    add-number-3
+    sub-number-2
+    part-number-start-2
+    part-number-end-2
+    number-requires-2
+    mul-pairs
+    array-set-from-pairs
+    add-i
+    loop-less
+    loop-again
+    returns)

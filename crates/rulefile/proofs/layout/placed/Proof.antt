@@ -1,0 +1,67 @@
+-- `rulefile::layout::placed` meets its contract, test by test.
+-- Assumes nothing.
+use borrow.Author.Needs.{needs}
+use native.Mathlib.Omega.{arith}
+use Rattle.rulefile.specs.Layout.{placed}
+use Rattle.rulefile.proofs.LayoutLaws.{tests, bytes-mul}
+use Rattle.rulefile.proofs.layout.placed.Statement.{statement}
+use Rattle.rulefile.proofs.layout.placed.Tie as tie
+use Rattle.rulefile.proofs.layout.placed.Reads as reads
+use Rattle.rulefile.proofs.layout.placed.Lts as lts
+
+cast-pairs : tie.Need-cast-pairs
+cast-pairs c = search needs
+
+mul-pairs : tie.Need-mul-pairs
+mul-pairs c = search needs
+
+add-pairs : tie.Need-add-pairs
+add-pairs c = search needs
+
+cast-table : tie.Need-cast-table
+cast-table c = search needs
+
+cast-table-2 : tie.Need-cast-table-2
+cast-table-2 c = search needs
+
+mul-table : tie.Need-mul-table
+mul-table c =
+    let s = c .before .before .before .before .args .trailer .shape in
+    omega (arith, bytes-mul (s .states) (s .events) (omega arith) (omega arith))
+
+add-table : tie.Need-add-table
+add-table c =
+    let s = c .before .before .before .before .args .trailer .shape in
+    omega (arith, bytes-mul (s .states) (s .events) (omega arith) (omega arith))
+
+returns : tie.Need-returns
+unfolding placed
+returns c = search tests
+
+returns-2 : tie.Need-returns-2
+unfolding placed
+returns-2 c = search tests
+
+returns-3 : tie.Need-returns-3
+unfolding placed
+returns-3 c = search tests
+
+returns-4 : tie.Need-returns-4
+unfolding placed
+returns-4 c = search tests
+
+pub placed-spec : {M : Type 1} → statement M
+placed-spec =
+    tie.close
+    (tie.spec
+    cast-pairs
+    mul-pairs
+    add-pairs
+    cast-table
+    cast-table-2
+    mul-table
+    add-table
+    returns
+    returns-2
+    returns-3
+    returns-4)

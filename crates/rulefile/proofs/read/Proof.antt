@@ -1,0 +1,82 @@
+-- `rulefile::read` meets its contract.
+-- Assumes nothing.
+use borrow.Author.Needs.{needs}
+use Prim.Native.Nat.{_≤_}
+use mathlib.Core.Path.{sym}
+use native.Mathlib.Omega.{arith}
+use lib.ListN.{length}
+use lib.Seq.{length-take-le}
+use Rattle.rulefile.proofs.PartsLaws.{SoundParts, sound-parts}
+use Rattle.rulefile.proofs.ReadingLaws.{read-refused, read-sound}
+use Rattle.rulefile.proofs.read.Statement.{statement}
+use Rattle.rulefile.proofs.read.Tie as tie
+use Rattle.rulefile.proofs.read.Reads as reads
+use Rattle.rulefile.proofs.read.Lts as lts
+use Rattle.octets.proofs.copy.Reads as copy-reads
+use Rattle.rulefile.proofs.layout.unread.Reads as unread-reads
+use Rattle.rulefile.proofs.parts.Reads as parts-reads
+
+parts-requires : tie.Need-parts-requires
+parts-requires c κs = search needs
+
+enum-known-verdict : tie.Need-enum-known-verdict
+enum-known-verdict c = search needs
+
+unread-requires : tie.Need-unread-requires
+unread-requires c κs = search needs
+
+returns : tie.Need-returns
+returns c = read-refused (c .before .before .before .before .before .before .args .file .now) (c .before .before .before .before .parts .ensures) (c .before .before .verdict .given .1) (c .unread .ensures)
+
+enum-told : tie.Need-enum-told
+enum-told c = search needs
+
+-- what was found
+good : (c : tie.After-enum-told) → SoundParts (c .before .before .before .before .args .file .now) (c .before .before .parts .result)
+good c = sound-parts _ (c .before .before .parts .ensures) (c .enum-told .given .1)
+
+slice-aggregate-copy : tie.Need-slice-aggregate-copy
+slice-aggregate-copy c = let s = good (c .before) in sym (length-take-le _ _ (omega arith))
+
+slice-aggregate-copy-2 : tie.Need-slice-aggregate-copy-2
+slice-aggregate-copy-2 c = search needs
+
+copy-requires : tie.Need-copy-requires
+copy-requires c κs = search needs
+
+sub-copy : tie.Need-sub-copy
+sub-copy c = let s = good (c .before .before .before .before) in omega arith
+
+part-copy-start : tie.Need-part-copy-start
+part-copy-start c = let s = good (c .before .before .before .before) in omega arith
+
+part-copy-end : tie.Need-part-copy-end
+part-copy-end c = let s = good (c .before .before .before .before) in omega arith
+
+slice-aggregate-copy-3 : tie.Need-slice-aggregate-copy-3
+slice-aggregate-copy-3 c = search needs
+
+copy-requires-2 : tie.Need-copy-requires-2
+copy-requires-2 c κs = search needs
+
+returns-2 : tie.Need-returns-2
+returns-2 c = read-sound (c .before .before .before .before .before .before .before .before .before .before .before .before .before .before .args .file .now) (c .before .before .before .before .before .before .before .before .before .before .before .before .parts .ensures) (c .before .before .before .before .before .before .before .before .before .before .enum-told .given .1) (c .before .before .before .before .before .before .before .copy .ensures) (c .before .before .before .copy2 .ensures)
+
+pub read-spec : {M : Type 1} → statement M
+read-spec =
+    tie.close
+    (tie.spec
+    parts-requires
+    enum-known-verdict
+    unread-requires
+    returns
+    enum-told
+    slice-aggregate-copy
+    slice-aggregate-copy-2
+    copy-requires
+    sub-copy
+    part-copy-start
+    part-copy-end
+    slice-aggregate-copy-3
+    copy-requires-2
+    returns-2)

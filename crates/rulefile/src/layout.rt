@@ -1,0 +1,286 @@
+// The layout of a rule file: what its bytes say, and the bytes of a rule.
+ghost use mathlib.Core.Path.{_≡_};
+ghost use mathlib.Core.List.{[], _∷_, _++_};
+ghost use Prim.Native.Nat.{_+_, _*_, _≤_};
+ghost use lib.ListN.{length};
+ghost use Rattle.rule.specs.Drawing.{noPair, padded, zeroRule};
+ghost use Rattle.rule.specs.Refusals.{firstOf};
+ghost use Rattle.rule.specs.declared.Verdict.the-variants.{Refused};
+ghost use Rattle.rulefile.specs.Layout.{trailerOf, class, range, distance, pairIn, upTo, pairOut, pairsOut, trailerOut};
+ghost use Rattle.rulefile.specs.Reading.{partsBy, readingBy};
+ghost use Rattle.rulefile.specs.Writing.{noted};
+use crate::Contents;
+use crate::Reading;
+use crate::Trailer;
+use rule::Pair;
+use rule::Refusal;
+use rule::Rule;
+use rule::Shape;
+use rule::StateNo;
+use rule::Verdict;
+
+// Whether a file has a length that one can have, and ends with the two marks.
+pub(crate) fn framed(file: &[u8]) -> bool
+    ensures { λ r. ⌜ r ≡ Rattle.rulefile.specs.Layout.framed (now (file .entry)) ⌝ }
+{
+    let len = file.len();
+    if len < 12 {
+        return false;
+    }
+    if 3212 < len {
+        return false;
+    }
+    if file[len - 2] != 72 {
+        return false;
+    }
+    file[len - 1] == 82
+}
+
+// What the last twelve bytes say.
+pub(crate) fn trailer_of(bytes: &[u8]) -> Trailer
+    requires { ⌜ length (now bytes) ≡ 12 ⌝ }
+    ensures { λ r. ⌜ r ≡ trailerOf (now (bytes .entry)) ⌝ }
+{
+    let table = octets::number(&bytes[6..8]) as usize;
+    let pairs = octets::number(&bytes[8..10]) as usize;
+    Trailer {
+        shape: Shape {
+            class: bytes[0],
+            states: bytes[1],
+            events: bytes[2],
+            pairs: bytes[3],
+            initial: StateNo(bytes[4]),
+        },
+        spare: bytes[5],
+        table,
+        pairs,
+    }
+}
+
+// Whether N, K, m, the initial state and the spare byte are in range, and m is 1 where the class has one pair.
+fn ranged(shape: Shape, spare: u8) -> bool
+    ensures { λ r. ⌜ r ≡ Rattle.rulefile.specs.Layout.ranged shape spare ⌝ }
+{
+    let initial = shape.initial;
+    if shape.states < 1 {
+        return false;
+    }
+    if Rule::STATES < shape.states {
+        return false;
+    }
+    if shape.events < 1 {
+        return false;
+    }
+    if Rule::EVENTS < shape.events {
+        return false;
+    }
+    if shape.pairs < 1 {
+        return false;
+    }
+    if Rule::PAIRS < shape.pairs {
+        return false;
+    }
+    if shape.states <= initial.0 {
+        return false;
+    }
+    if spare != 0 {
+        return false;
+    }
+    if shape.class == 3 {
+        return true;
+    }
+    shape.pairs == 1
+}
+
+// The refusals 2 and 3.
+pub(crate) fn shaped(shape: Shape, spare: u8) -> Verdict
+    ensures { λ r. ⌜ r ≡ firstOf (class shape ∷ range shape spare ∷ []) ⌝ }
+{
+    if shape.class < 1 {
+        return Verdict::Refused(Refusal::Class);
+    }
+    if 4 < shape.class {
+        return Verdict::Refused(Refusal::Class);
+    }
+    if !ranged(shape, spare) {
+        return Verdict::Refused(Refusal::Range);
+    }
+    Verdict::Sound
+}
+
+// Whether the back distances are right, the file is as long as they say, and its note is not too long.
+fn placed(trailer: Trailer, len: usize) -> bool
+    ensures { λ r. ⌜ r ≡ Rattle.rulefile.specs.Layout.placed trailer len ⌝ }
+{
+    let shape = trailer.shape;
+    let pairs = 12 + 16 * (shape.pairs as usize);
+    let table = pairs + (shape.states as usize) * (shape.events as usize);
+    if trailer.pairs != pairs {
+        return false;
+    }
+    if trailer.table != table {
+        return false;
+    }
+    if len < table {
+        return false;
+    }
+    len - table <= 1024
+}
+
+// The refusals 2 to 4 of a file of so many bytes.
+pub(crate) fn headed(trailer: Trailer, len: usize) -> Verdict
+    ensures { λ r. ⌜ r ≡ firstOf (class (trailer .shape) ∷ range (trailer .shape) (trailer .spare) ∷ distance trailer len ∷ []) ⌝ }
+{
+    let shape = trailer.shape;
+    let verdict = shaped(shape, trailer.spare);
+    let Verdict::Sound = verdict else {
+        return verdict;
+    };
+    if !placed(trailer, len) {
+        return Verdict::Refused(Refusal::Distance);
+    }
+    Verdict::Sound
+}
+
+// The refusals 2 to 4 of a rule by value.
+pub(crate) fn measured(shape: Shape, length: usize) -> Verdict
+    ensures { λ r. ⌜ r ≡ firstOf (class shape ∷ range shape 0 ∷ noted length ∷ []) ⌝ }
+{
+    let verdict = shaped(shape, 0);
+    let Verdict::Sound = verdict else {
+        return verdict;
+    };
+    if 1024 < length {
+        return Verdict::Refused(Refusal::Distance);
+    }
+    Verdict::Sound
+}
+
+// The pairs that stand in some bytes, and then empty ones.
+pub(crate) fn pairs_of(bytes: &[u8], count: u8) -> [Pair; 8]
+    requires { ⌜ (count ≤ 8) × (length (now bytes) ≡ 16 * count) ⌝ }
+    ensures { λ r. ⌜ r ≡ padded 8 noPair (upTo (pairIn (now (bytes .entry))) count) ⌝ }
+{
+    let mut pairs = [Pair { r: 0, p: 0 }; 8];
+    let end = count as usize;
+    let mut i: usize = 0;
+    while i < end {
+        let at = 16 * i;
+        let r = octets::number(&bytes[at..at + 8]);
+        let p = octets::number(&bytes[at + 8..at + 16]);
+        pairs[i] = Pair { r, p };
+        i += 1;
+    }
+    pairs
+}
+
+// The parts of a file that is refused.
+pub(crate) fn refused(refusal: Refusal) -> Contents
+    ensures { λ r. ⌜ r ≡ partsBy (Refused refusal) [] ⌝ }
+{
+    Contents {
+        verdict: Verdict::Refused(refusal),
+        shape: Shape {
+            class: 0,
+            states: 0,
+            events: 0,
+            pairs: 0,
+            initial: StateNo(0),
+        },
+        start: 0,
+        end: 0,
+        pairs: [Pair { r: 0, p: 0 }; 8],
+    }
+}
+
+// The reading of a file that is refused: a rule with 0 in every place.
+pub(crate) fn unread(refusal: Refusal) -> Reading
+    ensures { λ r. ⌜ r ≡ readingBy (Refused refusal) zeroRule ⌝ }
+{
+    let shape = Shape {
+        class: 0,
+        states: 0,
+        events: 0,
+        pairs: 0,
+        initial: StateNo(0),
+    };
+    Reading {
+        verdict: Verdict::Refused(refusal),
+        rule: Rule {
+            shape,
+            length: 0,
+            note: [0; 1024],
+            table: [0; 2048],
+            pairs: [Pair { r: 0, p: 0 }; 8],
+        },
+    }
+}
+
+// Fills sixteen bytes with a pair: R, then P.
+fn put_pair(out: &mut [u8], pair: Pair)
+    requires { ⌜ length (now out) ≡ 16 ⌝ }
+    ensures { λ _. ⌜ now (out .exit) ≡ pairOut pair ⌝ }
+{
+    octets::put_number(&mut out[0..8], pair.r);
+    octets::put_number(&mut out[8..16], pair.p);
+}
+
+// Fills a slice with the first of some pairs.
+fn put_pairs(out: &mut [u8], pairs: [Pair; 8], count: u8)
+    requires { ⌜ (count ≤ 8) × (length (now out) ≡ 16 * count) ⌝ }
+    ensures { λ _. ⌜ now (out .exit) ≡ pairsOut pairs count ⌝ }
+{
+    let end = count as usize;
+    let mut i: usize = 0;
+    while i < end {
+        let pair = pairs[i];
+        let at = 16 * i;
+        put_pair(&mut out[at..at + 16], pair);
+        i += 1;
+    }
+}
+
+// Fills twelve bytes with the trailer of a shape.
+fn put_trailer(out: &mut [u8], shape: Shape)
+    requires { ⌜ length (now out) ≡ 12 ⌝ }
+    ensures { λ _. ⌜ now (out .exit) ≡ trailerOut shape ⌝ }
+{
+    let pairs = 12 + 16 * (shape.pairs as usize);
+    let table = pairs + (shape.states as usize) * (shape.events as usize);
+    let initial = shape.initial;
+    let bytes = [
+        shape.class,
+        shape.states,
+        shape.events,
+        shape.pairs,
+        initial.0,
+        0,
+        (table % 256) as u8,
+        (table / 256 % 256) as u8,
+        (pairs % 256) as u8,
+        (pairs / 256 % 256) as u8,
+        72,
+        82,
+    ];
+    octets::copy(&bytes, out);
+}
+
+// Fills a slice with the used pairs and the trailer.
+fn put_end(out: &mut [u8], shape: Shape, pairs: [Pair; 8])
+    requires { ⌜ (shape .pairs ≤ 8) × (length (now out) ≡ 16 * shape .pairs + 12) ⌝ }
+    ensures { λ _. ⌜ now (out .exit) ≡ pairsOut pairs (shape .pairs) ++ trailerOut shape ⌝ }
+{
+    let end = 16 * (shape.pairs as usize);
+    put_pairs(&mut out[0..end], pairs, shape.pairs);
+    put_trailer(&mut out[end..], shape);
+}
+
+// Fills a slice with all that stands after the note: the table, the used pairs and the trailer.
+pub(crate) fn fill(out: &mut [u8], table: &[u8], shape: Shape, pairs: [Pair; 8])
+    requires { ⌜ (shape .pairs ≤ 8) × (length (now out) ≡ length (now table) + (16 * shape .pairs + 12)) ⌝ }
+    ensures { λ _. ⌜ now (out .exit) ≡ now (table .entry) ++ (pairsOut pairs (shape .pairs) ++ trailerOut shape) ⌝ }
+{
+    let cells = table.len();
+    octets::copy(table, out);
+    put_end(&mut out[cells..], shape, pairs);
+}

@@ -1,0 +1,129 @@
+// The rule file: checked, read and written (document 01, "Layouts" and "Refusal numbers").
+ghost use mathlib.Core.Path.{_≡_};
+ghost use Rattle.rulefile.specs.Reading.{partsOf, readingOf};
+ghost use Rattle.rulefile.specs.Writing.{WritePromise};
+
+pub mod checks;
+mod layout;
+
+use rule::Pair;
+use rule::Refusal;
+use rule::Rule;
+use rule::Shape;
+use rule::StateNo;
+use rule::Verdict;
+
+// What the last twelve bytes of a file say.
+pub struct Trailer {
+    pub shape: Shape,
+    pub spare: u8,
+    pub table: usize,
+    pub pairs: usize,
+}
+
+// A file that was looked at: where it is sound, its shape, its pairs, and where its table stands; else 0 in every place.
+pub struct Contents {
+    pub verdict: Verdict,
+    pub shape: Shape,
+    pub start: usize,
+    pub end: usize,
+    pub pairs: [Pair; 8],
+}
+
+// What reading comes to: where it is sound the rule, else a rule with 0 in every place.
+pub struct Reading {
+    pub verdict: Verdict,
+    pub rule: Rule,
+}
+
+// What writing comes to: so many bytes at the front of the output, or a refusal.
+pub enum Written {
+    Done(usize),
+    Refused(Refusal),
+}
+
+// Looks at a file: the refusals 1 to 10, and where its parts are. Nothing of it is copied but the pairs.
+pub fn parts(file: &[u8]) -> Contents
+    ensures { λ r. ⌜ r ≡ partsOf (now (file .entry)) ⌝ }
+{
+    if !layout::framed(file) {
+        return layout::refused(Refusal::Frame);
+    }
+    let len = file.len();
+    let trailer = layout::trailer_of(&file[len - 12..]);
+    let verdict = layout::headed(trailer, len);
+    if let Verdict::Refused(refusal) = verdict {
+        return layout::refused(refusal);
+    }
+    let shape = trailer.shape;
+    let start = len - trailer.table;
+    let end = len - trailer.pairs;
+    let pairs = layout::pairs_of(&file[end..len - 12], shape.pairs);
+    let verdict = checks::checked(shape, &file[start..end], pairs);
+    if let Verdict::Refused(refusal) = verdict {
+        return layout::refused(refusal);
+    }
+    Contents {
+        verdict,
+        shape,
+        start,
+        end,
+        pairs,
+    }
+}
+
+// Reads a rule: the refusals 1 to 10.
+pub fn read(file: &[u8]) -> Reading
+    ensures { λ r. ⌜ r ≡ readingOf (now (file .entry)) ⌝ }
+{
+    let parts = parts(file);
+    let verdict = parts.verdict;
+    if let Verdict::Refused(refusal) = verdict {
+        return layout::unread(refusal);
+    }
+    let length = parts.start;
+    let end = parts.end;
+    let mut note = [0u8; 1024];
+    octets::copy(&file[..length], &mut note);
+    let mut table = [0u8; 2048];
+    octets::copy(&file[length..end], &mut table);
+    let shape = parts.shape;
+    let pairs = parts.pairs;
+    Reading {
+        verdict,
+        rule: Rule {
+            shape,
+            length,
+            note,
+            table,
+            pairs,
+        },
+    }
+}
+
+// Writes a rule to the front of the output: the refusals 2, 3, 4 for the note, 5 to 10, then 16.
+pub fn write(rule: Rule, out: &mut [u8]) -> Written
+    ensures { λ r. ⌜ WritePromise rule (now (out .entry)) r (now (out .exit)) ⌝ }
+{
+    let shape = rule.shape;
+    let verdict = layout::measured(shape, rule.length);
+    if let Verdict::Refused(refusal) = verdict {
+        return Written::Refused(refusal);
+    }
+    let cells = (shape.states as usize) * (shape.events as usize);
+    let table = rule.table;
+    let pairs = rule.pairs;
+    let verdict = checks::checked(shape, &table[..cells], pairs);
+    if let Verdict::Refused(refusal) = verdict {
+        return Written::Refused(refusal);
+    }
+    let length = rule.length;
+    let size = length + cells + 16 * (shape.pairs as usize) + 12;
+    if out.len() < size {
+        return Written::Refused(Refusal::Room);
+    }
+    let note = rule.note;
+    octets::copy(&note[..length], out);
+    layout::fill(&mut out[length..size], &table[..cells], shape, pairs);
+    Written::Done(size)
+}
