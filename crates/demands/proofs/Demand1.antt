@@ -1,0 +1,71 @@
+-- DEMAND 1. Every rule file, sheet, code and buffer length gets a definite answer in finite time.
+-- A bad one is refused by number, the run stays where it was, and no lent byte changes.
+--
+-- That each call returns, whatever it is given, is proved of each function with its contract: none has a `requires`.
+-- Here: the answer is determined, and what a refusal leaves. A refused event's answer has no run state: the caller keeps its own.
+-- Assumes nothing.
+use Prim.Native.Nat.{ℕ}
+use mathlib.Core.Path.{_≡_}
+use mathlib.Core.Logic.{_⊎_}
+use mathlib.Core.Path.{sym}
+use mathlib.Core.List.{List}
+use Rattle.rule.specs.Drawing.{drawn, stateNo, zeroRule}
+use Rattle.rule.specs.Refusals.{Numbered}
+use Rattle.rule.specs.declared.EventNo.{EventNo}
+use Rattle.rule.specs.declared.Rule.{Rule}
+use Rattle.rule.specs.declared.Refusal.{Refusal}
+use Rattle.rule.specs.declared.Refusal.the-variants.{Sheet as NoSheet, Room}
+use Rattle.rule.specs.declared.Verdict.the-variants.{Refused as Unsound}
+use Rattle.rulefile.specs.Layout.{drawingIn, fileOf}
+use Rattle.rulefile.specs.Reading.{verdictOn, readingOf}
+use Rattle.rulefile.specs.Writing.{verdictOf, WritePromise, OneWritten}
+use Rattle.rulefile.specs.declared.Written.the-variants.{Refused as Unwritten}
+use Rattle.rulefile.proofs.AnswerLaws.{file-gives, rule-gives, read-zero, put-refused, put-kept, put-one}
+use Rattle.sheet.specs.Making.{sheetOf, MakePromise}
+use Rattle.sheet.specs.Opening.{openedOf}
+use Rattle.monitor.specs.Fresh.{freshRun, startOf}
+use Rattle.monitor.specs.Event.{turnOf, EventPromise, OneAnswer}
+use Rattle.monitor.specs.declared.Run.{Run}
+use Rattle.monitor.specs.declared.Answer.the-variants.{Refused}
+use Rattle.monitor.proofs.AnswerLaws.{turn-refuses, turn-one, refused-kept, start-refused}
+
+pub record Demand1 : Type 0 where
+  -- reading: 1 to 10, and a rule with 0 in every place
+  pub read : (f : List ℕ) (x : Refusal) → readingOf f .verdict ≡ Unsound x → Numbered 1 10 x × (readingOf f .rule ≡ zeroRule)
+  -- writing: 2 to 10 or 16, and the output as it was
+  pub write : (r : Rule) (out : List ℕ) → OneWritten (WritePromise r out)
+  pub write-refused : (r : Rule) (out : List ℕ) (x : Refusal) (out′ : List ℕ) → WritePromise r out (Unwritten x) out′
+      → (Numbered 2 10 x ⊎ (x ≡ Room)) × (out′ ≡ out)
+  -- making a sheet: 1 to 10 or 16, and the output as it was
+  pub make : (f out : List ℕ) → OneWritten (MakePromise f out)
+  pub make-refused : (f out : List ℕ) (x : Refusal) (out′ : List ℕ) → MakePromise f out (Unwritten x) out′
+      → (Numbered 1 10 x ⊎ (x ≡ Room)) × (out′ ≡ out)
+  -- a fresh start: 11, and state 0 with nothing held
+  pub fresh : (sheet : List ℕ) (x : Refusal) → startOf sheet .verdict ≡ Unsound x → (x ≡ NoSheet) × (startOf sheet .run ≡ freshRun (stateNo 0))
+  -- one event: 11 to 16, and the memory and the output as they were
+  pub event : (sheet : List ℕ) (run : Run) (e : EventNo) (memory output : List ℕ) → OneAnswer (EventPromise sheet run e memory output)
+  pub event-refused : (sheet : List ℕ) (run : Run) (e : EventNo) (memory output : List ℕ) (x : Refusal) (memory′ output′ : List ℕ)
+      → EventPromise sheet run e memory output (Refused x) memory′ output′
+      → Numbered 11 16 x × (memory′ ≡ memory) × (output′ ≡ output)
+
+pub demand-1 : Demand1
+unfolding readingOf
+demand-1 =
+    record {
+      read = λ f x p. let z = read-zero (verdictOn f) _ x p in (file-gives f x (z .0), z .1);
+      write = λ r out. put-one (verdictOf r) (fileOf (drawn r)) out;
+      write-refused = λ r out x out′ p. (
+        put-refused 2 10 (verdictOf r) (rule-gives r) _ _ x (sym (p .answer)),
+        put-kept (verdictOf r) (fileOf (drawn r)) out x out′ p,
+      );
+      make = λ f out. put-one (verdictOn f) (sheetOf (drawingIn f)) out;
+      make-refused = λ f out x out′ p. (
+        put-refused 1 10 (verdictOn f) (file-gives f) _ _ x (sym (p .answer)),
+        put-kept (verdictOn f) (sheetOf (drawingIn f)) out x out′ p,
+      );
+      fresh = λ sheet x p. start-refused (openedOf sheet) x p;
+      event = λ sheet run e memory output. turn-one (turnOf sheet run e memory output) run e memory output;
+      event-refused = λ sheet run e memory output x memory′ output′ p.
+          let k = refused-kept (turnOf sheet run e memory output) run e memory output x memory′ output′ p in
+          (turn-refuses (openedOf sheet) sheet run e memory output x (k .0), k .1, k .2);
+    }

@@ -1,0 +1,176 @@
+-- Laws of one event: what it comes to, from the tests on the way, and what it leaves.
+-- Assumes nothing.
+use Prim.Native.Nat.{ℕ, suc, _+_, _*_, _/_, _%_, _≤_, _<_}
+use native.Mathlib.Omega.{arith}
+use native.Mathlib.Numerals.{add-one}
+use mathlib.Core.Path.{_≡_, refl, sym, ap, _∙_}
+use mathlib.Core.Bool.{Bool, true, false, cond, _||_, or-true}
+use mathlib.Core.List.{List, [], _∷_, _++_}
+use lib.Dec.{leb, ltb, eqb}
+use lib.ListN.{length, getD, take, drop, set}
+use lib.Seq.{length-take-le}
+use borrow.Author.Tests.{le-ltb, lt-ltb, le-leb, lt-leb, eq-eqb, ne-eqb, ltb-false}
+use Rattle.octets.specs.Copies.{copied}
+use Rattle.octets.proofs.CopyLaws.{copied-whole}
+use Rattle.octets.proofs.ListLaws.{store-more}
+use Rattle.rule.specs.Drawing.{stateNo}
+use Rattle.rule.specs.declared.StateNo.{StateNo}
+use Rattle.rule.specs.declared.EventNo.{EventNo}
+use Rattle.rule.specs.declared.Operation.{Operation}
+use Rattle.rule.specs.declared.Operation.the-variants.{Halt, Store, Dump}
+use Rattle.rule.specs.declared.Refusal.{Refusal}
+use Rattle.rule.specs.declared.Refusal.the-variants.{Sheet as NoSheet, Run as BadRun, Code, Cell, Memory, Room}
+use Rattle.sheet.specs.Opening.{openedOf}
+use Rattle.sheet.specs.declared.Head.{Head}
+use Rattle.sheet.specs.declared.Opened.{Opened}
+use Rattle.sheet.specs.declared.Opened.the-variants.{Sheet, Refused as Shut}
+use Rattle.monitor.specs.Event.{operationOf, cellTurn, lookOf, roomTurn, outputIn, TurnPromise, StepPromise, EventPromise}
+use Rattle.monitor.specs.Given.{cellRead, RunFits, CodeFits, CellFits, WrongRun, state-past, held-past, WrongCode, WrongCell, operation-3, next-past, Reads}
+use Rattle.monitor.specs.declared.Run.{Run}
+use Rattle.monitor.specs.declared.Turn.{Turn}
+use Rattle.monitor.specs.declared.Turn.the-variants.{Move, Refused}
+use Rattle.monitor.specs.declared.Answer.{Answer}
+use Rattle.monitor.specs.declared.Answer.the-variants.{Taken, Refused as Declined}
+
+-- what the sheet says at the run's state and the event, by the rows of the table
+module _ {h : Head} (sheet : List ℕ) {run : Run} (e : EventNo) {room : ℕ} where
+  pub look-12 : WrongRun h run room → Refused BadRun ≡ lookOf h sheet run e room
+  unfolding lookOf
+  look-12 (state-past a) = simp (le-leb _ _ a)
+  look-12 (held-past a) = simp (lt-ltb _ _ a, or-true)
+
+  pub look-13 : WrongCode h run e room → Refused Code ≡ lookOf h sheet run e room
+  unfolding lookOf
+  look-13 w =
+      simp (lt-leb _ _ (w .run-fits .state-in), le-ltb _ _ (w .run-fits .held-in), le-leb _ _ (w .event-past))
+
+  -- with none of these it is what the cell says
+  look-cell : CodeFits h run e room → lookOf h sheet run e room ≡ cellTurn (cellRead h sheet run e) (h .states) run e
+  unfolding lookOf
+  look-cell f =
+      simp
+      (lt-leb _ _ (f .run-fits .state-in), le-ltb _ _ (f .run-fits .held-in), lt-leb _ _ (f .event-in))
+
+  pub look-14 : WrongCell h sheet run e room → Refused (Cell (run .state) e) ≡ lookOf h sheet run e room
+  unfolding cellTurn
+  look-14 (operation-3 f a) = sym (look-cell f ∙ simp (eq-eqb _ _ a))
+  look-14 (next-past f a) = sym (look-cell f ∙ simp (le-leb _ _ a, or-true))
+
+  pub look-move : {o : Operation} → Reads h sheet run e room o → Move o (stateNo (cellRead h sheet run e % 64)) ≡ lookOf h sheet run e room
+  unfolding cellTurn
+  look-move r =
+      let f = r .cell-fits in
+      sym (look-cell (f .code-fits) ∙ simp (ne-eqb _ _ (f .operation-in), lt-leb _ _ (f .next-in), r .operation))
+
+  -- the three moves
+  module _ (f : CellFits h sheet run e room) where
+    pub look-halt : cellRead h sheet run e / 64 ≡ 0 → Move Halt (stateNo (cellRead h sheet run e % 64)) ≡ lookOf h sheet run e room
+    look-halt a = look-move (record { cell-fits = f; operation = simp (eq-eqb _ _ a) })
+
+    pub look-store : cellRead h sheet run e / 64 ≡ 1 → Move Store (stateNo (cellRead h sheet run e % 64)) ≡ lookOf h sheet run e room
+    look-store a = look-move (record { cell-fits = f; operation = rw a })
+
+    pub look-dump : (cellRead h sheet run e / 64 ≡ 0 → ⊥) → (cellRead h sheet run e / 64 ≡ 1 → ⊥)
+        → Move Dump (stateNo (cellRead h sheet run e % 64)) ≡ lookOf h sheet run e room
+    look-dump a b = look-move (record { cell-fits = f; operation = simp (ne-eqb _ _ a, ne-eqb _ _ b) })
+
+-- a move is found only where no more is held than the memory is long
+pub move-held : (h : Head) (sheet : List ℕ) (run : Run) (e : EventNo) (room : ℕ) (t : Turn) {o : Operation} {n : StateNo}
+    → t ≡ lookOf h sheet run e room → t ≡ Move o n → run .held ≤ room
+unfolding lookOf
+move-held h sheet run e room t p q = by _ (leb (h .states) (run .state .0)) (ltb room (run .held)) refl (sym p ∙ q)
+  where
+    by : {o : Operation} {n : StateNo} (x : Turn) (a b : Bool) → ltb room (run .held) ≡ b → cond (a || b) (Refused BadRun) x ≡ Move o n → run .held ≤ room
+    by x true b u v = absurd (let z : _≡_ {A = ℕ} 0 1 = cc in omega arith)
+    by x false true u v = absurd (let z : _≡_ {A = ℕ} 0 1 = cc in omega arith)
+    by x false false u v = ltb-false _ _ u
+
+-- what store does
+module _ (next : StateNo) (run : Run) (e : EventNo) (memory : List ℕ) where
+  abbrev pub StorePromise : Answer → List ℕ → Type 0
+  StorePromise r memory′ =
+      TurnPromise (roomTurn (Move Store next) (run .held) (length memory) 0) run e memory [] r memory′ []
+
+  pub store-full : length memory ≤ run .held → StorePromise (Declined Memory) memory
+  store-full a =
+      let t = le-leb _ _ a in
+      record { answer = rw t; memory-after = rw t; output-after = rw t }
+
+  pub stored : run .held < length memory
+      → StorePromise (Taken Store (record { state = next; held = run .held + 1 }) 0) (set memory (run .held) (e .0))
+  stored a =
+      let t = lt-leb _ _ a in
+      record { answer = rw t; memory-after = rw t; output-after = rw t }
+
+-- what dump does
+pub taken-long : (n : ℕ) (l : List ℕ) → n ≤ length l → n ≡ length (take n l)
+taken-long n l h = sym (length-take-le n l h)
+
+module _ (next : StateNo) (run : Run) (e : EventNo) (memory output : List ℕ) where
+  abbrev pub DumpPromise : Answer → List ℕ → Type 0
+  DumpPromise r output′ =
+      TurnPromise (roomTurn (Move Dump next) (run .held) 0 (length output)) run e memory output r memory output′
+
+  pub dump-full : length output ≤ run .held → DumpPromise (Declined Room) output
+  dump-full a =
+      let t = le-leb _ _ a in
+      record { answer = rw t; memory-after = rw t; output-after = rw t }
+
+  pub dumped : {to : List ℕ} → run .held ≤ length memory → run .held < length output → to ≡ copied (take (run .held) memory) output
+      → DumpPromise (Taken Dump (record { state = next; held = 0 }) (run .held + 1)) (set to (run .held) (e .0))
+  dumped {to} a b d =
+      let t = lt-leb _ _ b in
+      let n : length (take (run .held) memory) ≡ run .held = length-take-le _ _ a in
+      let w : to ≡ take (run .held) memory ++ drop (run .held) output = d ∙ copied-whole (take (run .held) memory) output (omega arith) ∙ rw n in
+      record {
+        answer = rw t;
+        memory-after = rw t;
+        output-after = rw (t, w, add-one) (store-more (take (run .held) memory) output (run .held) (e .0) 0 n b);
+      }
+
+-- what a step does, from the turn that was found
+module _ (h : Head) (sheet : List ℕ) (run : Run) (e : EventNo) (memory output : List ℕ) (t : Turn) (look : t ≡ lookOf h sheet run e (length memory)) where
+  turned : (r : Answer) (memory′ output′ : List ℕ)
+      → TurnPromise (roomTurn t (run .held) (length memory) (length output)) run e memory output r memory′ output′
+      → StepPromise h sheet run e memory output r memory′ output′
+  turned r memory′ output′ p = rw (← look) p
+
+  pub step-refused : {r : Refusal} → t ≡ Refused r → StepPromise h sheet run e memory output (Declined r) memory output
+  step-refused q = turned _ _ _ (rw q (record { answer = refl; memory-after = refl; output-after = refl }))
+
+  module _ {o : Operation} {n : StateNo} (move : t ≡ Move o n) where
+    pub step-halt : o ≡ Halt → StepPromise h sheet run e memory output (Taken o (record { state = n; held = run .held }) 0) memory output
+    step-halt q =
+        let w : t ≡ Move Halt n = cc in
+        turned _ _ _ (rw (w, q) (record { answer = refl; memory-after = refl; output-after = refl }))
+
+    pub step-store : {r : Answer} {memory′ : List ℕ} → o ≡ Store → StorePromise n run e memory r memory′
+        → StepPromise h sheet run e memory output r memory′ output
+    step-store q p =
+        let w : t ≡ Move Store n = cc in
+        turned _ _ _ (rw w (record { answer = p .answer; memory-after = p .memory-after; output-after = kept (leb (length memory) (run .held)) }))
+      where
+        kept : (full : Bool) → output ≡ outputIn (cond full (Refused Memory) (Move Store n)) (run .held) (e .0) memory output
+        kept true = refl
+        kept false = refl
+
+    pub step-dump : {r : Answer} {output′ : List ℕ} → o ≡ Dump → DumpPromise n run e memory output r output′
+        → StepPromise h sheet run e memory output r memory output′
+    step-dump q p =
+        let w : t ≡ Move Dump n = cc in
+        turned _ _ _ (rw w p)
+
+-- what an event does, from the sheet that was opened
+module _ (sheet : List ℕ) (res : Opened) (open-is : res ≡ openedOf sheet) where
+  pub opened-head : {h : Head} → res ≡ Sheet h → Sheet h ≡ openedOf sheet
+  opened-head q = sym q ∙ open-is
+
+  module _ (run : Run) (e : EventNo) (memory output : List ℕ) where
+    pub event-shut : res ≡ Shut → EventPromise sheet run e memory output (Declined NoSheet) memory output
+    event-shut q =
+        let w : openedOf sheet ≡ Shut = cc in
+        record { answer = rw w; memory-after = rw w; output-after = rw w }
+
+    pub event-opened : {h : Head} {r : Answer} {memory′ output′ : List ℕ} → res ≡ Sheet h
+        → StepPromise h sheet run e memory output r memory′ output′ → EventPromise sheet run e memory output r memory′ output′
+    event-opened q p = rw (← opened-head q) p

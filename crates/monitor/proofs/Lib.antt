@@ -1,0 +1,5 @@
+pub mod EventLaws
+pub mod FreshLaws
+pub mod AnswerLaws
+pub mod GivenLaws
+pub mod OneAnswer

@@ -1,0 +1,6 @@
+pub mod OpeningLaws
+pub mod MarkLaws
+pub mod CellLaws
+pub mod MakingLaws
+pub mod FoundLaws
+pub mod OneAnswer

@@ -1,0 +1,158 @@
+-- Laws of opening a sheet: when it is refused, and what is known of one that is not.
+-- Assumes nothing.
+use Prim.Native.Nat.{ℕ, _+_, _*_, _≤_, _<_}
+use native.Mathlib.Omega.{arith}
+use native.Mathlib.Nat.{mul-le-mul}
+use mathlib.Core.Path.{_≡_, refl, sym, _∙_}
+use mathlib.Core.Bool.{Bool, true, false, cond, _&&_, and-false}
+use mathlib.Core.List.{List}
+use mathlib.Core.Logic.{_↔_}
+use lib.Arith.{digits-lt}
+use lib.Dec.{leb, ltb, eqb}
+use lib.ListN.{length}
+use mir.Val.{Fits}
+use mir.Syntax.{w8, w64}
+use borrow.Author.Tests.{lt-leb, le-ltb, ne-eqb, leb-false, ltb-false, eqb-false}
+use Rattle.rule.proofs.BoolLaws.{Says, and-says, eq-says, in-words}
+use Rattle.rulefile.proofs.SoundLaws.{le-says, lt-says}
+use Rattle.sheet.specs.Given.{BadSheet, short, unmarked, no-states, many-states, no-events, many-events, no-initial, wrong-distance, wrong-length, GoodSheet}
+use Rattle.sheet.specs.Opening.{back, headIn, wholeSize, opens, openedOf}
+use Rattle.sheet.specs.declared.Head.{Head}
+use Rattle.sheet.specs.declared.Opened.{Opened}
+use Rattle.sheet.specs.declared.Opened.the-variants.{Sheet, Refused}
+
+-- a sheet opens exactly when it is good
+good-says : (l : List ℕ) → Says (opens l) (GoodSheet l)
+unfolding opens
+good-says l =
+    in-words
+    (and-says (le-says _ _) (and-says (eq-says _ _) (and-says (le-says _ _) (and-says (le-says _ _) (and-says (le-says _ _)
+    (and-says (le-says _ _) (and-says (lt-says _ _) (and-says (eq-says _ _) (eq-says _ _)))))))))
+    (λ p.
+    record {
+      long = p .0;
+      marked = p .1 .0;
+      some-states = p .1 .1 .0;
+      few-states = p .1 .1 .1 .0;
+      some-events = p .1 .1 .1 .1 .0;
+      few-events = p .1 .1 .1 .1 .1 .0;
+      initial-in = p .1 .1 .1 .1 .1 .1 .0;
+      distance = p .1 .1 .1 .1 .1 .1 .1 .0;
+      size = p .1 .1 .1 .1 .1 .1 .1 .1;
+    })
+    (λ g. (g .long, (g .marked, (g .some-states, (g .few-states, (g .some-events, (g .few-events, (g .initial-in, (g .distance, g .size)))))))))
+
+-- a bad sheet does not open
+bad-shut : {l : List ℕ} → BadSheet l → opens l ≡ false
+unfolding opens
+bad-shut (short h) = simp (lt-leb _ _ h)
+bad-shut (unmarked h) = simp (ne-eqb _ _ h, and-false)
+bad-shut (no-states h) = simp (lt-leb _ _ h, and-false)
+bad-shut (many-states h) = simp (lt-leb _ _ h, and-false)
+bad-shut (no-events h) = simp (lt-leb _ _ h, and-false)
+bad-shut (many-events h) = simp (lt-leb _ _ h, and-false)
+bad-shut (no-initial h) = simp (le-ltb _ _ h, and-false)
+bad-shut (wrong-distance h) = simp (ne-eqb _ _ h, and-false)
+bad-shut (wrong-length h) = simp (ne-eqb _ _ h, and-false)
+
+-- a sheet that does not open is bad: one of its tests fails
+either : {A : Type 0} (a b : Bool) → a && b ≡ false → (a ≡ false → A) → (b ≡ false → A) → A
+either true b h f g = g h
+either false b h f g = f refl
+
+shut-bad : (l : List ℕ) → opens l ≡ false → BadSheet l
+unfolding opens
+shut-bad l h =
+    either (leb 6 (length l)) _ h (λ a. short (leb-false _ _ a)) (λ h.
+    either (eqb (back l 3) 77) _ h (λ a. unmarked (eqb-false _ _ a)) (λ h.
+    either (leb 1 (back l 6)) _ h (λ a. no-states (leb-false _ _ a)) (λ h.
+    either (leb (back l 6) 64) _ h (λ a. many-states (leb-false _ _ a)) (λ h.
+    either (leb 1 (back l 5)) _ h (λ a. no-events (leb-false _ _ a)) (λ h.
+    either (leb (back l 5) 32) _ h (λ a. many-events (leb-false _ _ a)) (λ h.
+    either (ltb (back l 4) (back l 6)) _ h (λ a. no-initial (ltb-false _ _ a)) (λ h.
+    either (eqb (back l 2 + 256 * back l 1) (wholeSize l)) _ h (λ a. wrong-distance (eqb-false _ _ a)) (λ a.
+    wrong-length (eqb-false _ _ a)))))))))
+
+-- a choice that came to a constructor tells its test
+chose : {g h : Head} (t : Bool) → cond t (Sheet g) Refused ≡ Sheet h → (t ≡ true) × (g ≡ h)
+chose true e = (refl, cc)
+chose false e = absurd (let z : _≡_ {A = ℕ} 0 1 = cc in omega arith)
+
+chose-not : (g : Head) (t : Bool) → cond t (Sheet g) Refused ≡ Refused → t ≡ false
+chose-not g true e = absurd (let z : _≡_ {A = ℕ} 0 1 = cc in omega arith)
+chose-not g false e = refl
+
+-- 11 is given exactly when the sheet is bad; `faults` finds it from any of the tests
+pub bad-refused : {l : List ℕ} → BadSheet l → Refused ≡ openedOf l
+unfolding openedOf
+bad-refused b = rw (bad-shut b)
+
+pub ruleset faults = (bad-refused, short, unmarked, no-states, many-states, no-events, many-events, no-initial, wrong-distance, wrong-length)
+
+pub refused-when : (l : List ℕ) → (openedOf l ≡ Refused) ↔ BadSheet l
+unfolding openedOf
+refused-when l = (λ e. shut-bad l (chose-not (headIn l) (opens l) e), λ b. sym (bad-refused b))
+
+-- it is opened exactly when the sheet is good, and its head is as its last bytes say
+pub good-opened : {l : List ℕ} → GoodSheet l → Sheet (headIn l) ≡ openedOf l
+unfolding openedOf
+good-opened g = rw (good-says _ .1 g)
+
+pub opened-when : (l : List ℕ) (h : Head) → (openedOf l ≡ Sheet h) ↔ (GoodSheet l × (headIn l ≡ h))
+unfolding openedOf
+opened-when l h =
+    (λ e. let t = chose (opens l) e in (good-says l .0 (t .0), t .1), λ g. sym (good-opened (g .0)) ∙ rw (g .1))
+
+-- what is known of a sheet that opened
+pub record Sized (l : List ℕ) (h : Head) : Type 0 where
+  pub some-states : 1 ≤ h .states
+  pub few-states : h .states ≤ 64
+  pub some-events : 1 ≤ h .events
+  pub few-events : h .events ≤ 32
+  pub initial-in : h .initial .0 < h .states
+  pub size : length l ≡ h .states * h .events + 6
+
+pub sized : {l : List ℕ} {h : Head} → Sheet h ≡ openedOf l → Sized l h
+sized {l} {h} e =
+    let t = opened-when l h .0 (sym e) in
+    let g = t .0 in
+    rw (← t .1)
+    record {
+      some-states = g .some-states;
+      few-states = g .few-states;
+      some-events = g .some-events;
+      few-events = g .few-events;
+      initial-in = g .initial-in;
+      size = g .size;
+    }
+
+-- products of a sheet's numbers fit
+pub cells-fit : (n k : ℕ) → n ≤ 64 → k ≤ 32 → Fits w64 (n * k)
+cells-fit n k h₁ h₂ = omega (arith, mul-le-mul h₁ h₂)
+
+pub sheet-fits : (n k : ℕ) → n ≤ 64 → k ≤ 32 → Fits w64 (n * k + 6)
+sheet-fits n k h₁ h₂ = omega (arith, mul-le-mul h₁ h₂)
+
+-- two bytes are a number that fits
+pub byte-fits : {x : ℕ} → Fits w8 x → Fits w64 x
+byte-fits h = omega arith
+
+pub high-fits : {y : ℕ} → Fits w8 y → Fits w64 (256 * y)
+high-fits h = omega arith
+
+pub word-fits : {x y : ℕ} → Fits w8 x → Fits w8 y → Fits w64 (x + 256 * y)
+word-fits h₁ h₂ = omega arith
+
+-- a cell's place is before the last six bytes
+module _ (l : List ℕ) (h : Head) (o : Sheet h ≡ openedOf l) (s : ℕ) (state-in : s < h .states) where
+  pub row-fits : Fits w64 (s * h .events)
+  row-fits = let z = sized o in cells-fit s (h .events) (omega arith) (omega arith)
+
+  module _ (e : ℕ) (event-in : e < h .events) where
+    pub place-inside : s * h .events + e < length l
+    place-inside = omega (arith, digits-lt state-in event-in, sized o .size)
+
+    pub place-fits : Fits w64 (s * h .events + e)
+    place-fits =
+        let z = sized o in
+        omega (arith, digits-lt state-in event-in, mul-le-mul (z .few-states) (z .few-events))

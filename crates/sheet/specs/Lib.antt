@@ -1,0 +1,3 @@
+pub mod Opening
+pub mod Making
+pub mod Given
