@@ -1,0 +1,29 @@
+-- `office::pachallu_fresh` meets its contract, a lemma of ToldLaws for each return.
+-- Assumes nothing.
+use borrow.Author.Needs.{needs}
+use Rattle.office.proofs.ToldLaws.{fresh-sound, fresh-refused}
+use Rattle.office.proofs.pachallu_fresh.Statement.{statement}
+use Rattle.office.proofs.pachallu_fresh.Tie as tie
+
+fresh-requires : tie.Need-fresh-requires
+fresh-requires c κs = search needs
+
+enum-told : tie.Need-enum-told
+enum-told c = search needs
+
+enum-known-verdict : tie.Need-enum-known-verdict
+enum-known-verdict c = search needs
+
+told-requires : tie.Need-told-requires
+told-requires c κs = search needs
+
+returns : tie.Need-returns
+returns c = search (needs, fresh-sound)
+
+returns-2 : tie.Need-returns-2
+returns-2 c = search (needs, fresh-refused)
+
+pub pachallu-fresh-spec : {M : Type 1} → statement M
+pachallu-fresh-spec =
+    tie.close
+    (tie.spec fresh-requires enum-told enum-known-verdict told-requires returns returns-2)

@@ -1,0 +1,64 @@
+-- The answers told in numbers. Each promise is that of the call behind it, with the numbers of its answer.
+-- Assumes nothing.
+use Prim.Native.Nat.{ℕ}
+use mathlib.Core.Path.{_≡_}
+use mathlib.Core.List.{List}
+use Rattle.rule.specs.Drawing.{stateNo, eventNo}
+use Rattle.rule.specs.Operations.{markOf}
+use Rattle.rule.specs.Refusals.{toldOf}
+use Rattle.rule.specs.declared.Verdict.{Verdict}
+use Rattle.rule.specs.declared.Verdict.the-variants.{Sound, Refused as Unsound}
+use Rattle.rulefile.specs.declared.Written.{Written}
+use Rattle.rulefile.specs.declared.Written.the-variants.{Done, Refused as Unwritten}
+use Rattle.sheet.specs.Making.{MakePromise}
+use Rattle.monitor.specs.Fresh.{startOf}
+use Rattle.monitor.specs.Event.{EventPromise}
+use Rattle.monitor.specs.declared.Run.{Run}
+use Rattle.monitor.specs.declared.Answer.{Answer}
+use Rattle.monitor.specs.declared.Answer.the-variants.{Taken, Refused}
+use Rattle.office.specs.declared.Made.{Made}
+use Rattle.office.specs.declared.Started.{Started}
+use Rattle.office.specs.declared.Answered.{Answered}
+
+-- making a sheet: 0 is "done"; a refused call has written nothing
+abbrev pub madeOf : Written → Made
+madeOf (Done n) = record { refusal = 0; a = 0; b = 0; written = n }
+madeOf (Unwritten r) = record { refusal = toldOf r .number; a = toldOf r .a; b = toldOf r .b; written = 0 }
+
+pub record MakeForC (rule out : List ℕ) (r : Made) (out′ : List ℕ) : Type 0 where
+  pub answer : Written
+  pub promise : MakePromise rule out answer out′
+  pub told : r ≡ madeOf answer
+
+-- a fresh start
+abbrev pub startedOf : Verdict → Run → Started
+startedOf Sound run = record { refusal = 0; a = 0; b = 0; state = run .state .0; held = run .held }
+startedOf (Unsound r) run =
+    record { refusal = toldOf r .number; a = toldOf r .a; b = toldOf r .b; state = run .state .0; held = run .held }
+
+abbrev pub FreshForC : List ℕ → Started → Type 0
+FreshForC sheet r = r ≡ startedOf (startOf sheet .verdict) (startOf sheet .run)
+
+-- the run state that C carries
+abbrev pub runOf : ℕ → ℕ → Run
+runOf state held = record { state = stateNo state; held = held }
+
+-- one event: 0 is "taken"; a refused one has the state and the held number that it was given, operation 0, released 0
+abbrev pub answeredOf : Answer → Run → Answered
+answeredOf (Taken o run n) before =
+    record { refusal = 0; a = 0; b = 0; operation = markOf o; state = run .state .0; held = run .held; released = n }
+answeredOf (Refused r) before =
+    record {
+      refusal = toldOf r .number;
+      a = toldOf r .a;
+      b = toldOf r .b;
+      operation = 0;
+      state = before .state .0;
+      held = before .held;
+      released = 0;
+    }
+
+pub record EventForC (sheet : List ℕ) (state held event : ℕ) (memory output : List ℕ) (r : Answered) (memory′ output′ : List ℕ) : Type 0 where
+  pub answer : Answer
+  pub promise : EventPromise sheet (runOf state held) (eventNo event) memory output answer memory′ output′
+  pub told : r ≡ answeredOf answer (runOf state held)

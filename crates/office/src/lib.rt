@@ -1,0 +1,138 @@
+// What C calls: numbers and byte slices. Each call is one of the house's, and its answer is told in numbers; include/pachallu.h declares them.
+ghost use Rattle.office.specs.Told.{MakeForC, FreshForC, EventForC};
+use monitor::Answer;
+use monitor::Run;
+use rule::EventNo;
+use rule::StateNo;
+use rule::Verdict;
+use rulefile::Written;
+
+// What making a sheet came to. A refusal of 0 is "done".
+#[repr(C)]
+pub struct Made {
+    pub refusal: u8,
+    pub a: u8,
+    pub b: u8,
+    pub written: usize,
+}
+
+// What a fresh start came to.
+#[repr(C)]
+pub struct Started {
+    pub refusal: u8,
+    pub a: u8,
+    pub b: u8,
+    pub state: u8,
+    pub held: usize,
+}
+
+// What one event came to. A refused one tells the run state that it was given.
+#[repr(C)]
+pub struct Answered {
+    pub refusal: u8,
+    pub a: u8,
+    pub b: u8,
+    pub operation: u8,
+    pub state: u8,
+    pub held: usize,
+    pub released: usize,
+}
+
+#[no_mangle]
+pub extern "C" fn pachallu_make(rule: &[u8], sheet: &mut [u8]) -> Made
+    ensures { λ r. ⌜ MakeForC (now (rule .entry)) (now (sheet .entry)) r (now (sheet .exit)) ⌝ }
+{
+    match sheet::make(rule, sheet) {
+        Written::Done(written) => Made {
+            refusal: 0,
+            a: 0,
+            b: 0,
+            written,
+        },
+        Written::Refused(refusal) => {
+            let told = refusal.told();
+            Made {
+                refusal: told.number,
+                a: told.a,
+                b: told.b,
+                written: 0,
+            }
+        }
+    }
+}
+
+#[no_mangle]
+pub extern "C" fn pachallu_fresh(sheet: &[u8]) -> Started
+    ensures { λ r. ⌜ FreshForC (now (sheet .entry)) r ⌝ }
+{
+    let start = monitor::fresh(sheet);
+    let verdict = start.verdict;
+    let run = start.run;
+    let state = run.state;
+    match verdict {
+        Verdict::Sound => Started {
+            refusal: 0,
+            a: 0,
+            b: 0,
+            state: state.0,
+            held: run.held,
+        },
+        Verdict::Refused(refusal) => {
+            let told = refusal.told();
+            Started {
+                refusal: told.number,
+                a: told.a,
+                b: told.b,
+                state: state.0,
+                held: run.held,
+            }
+        }
+    }
+}
+
+#[no_mangle]
+pub extern "C" fn pachallu_event(
+    sheet: &[u8],
+    state: u8,
+    held: usize,
+    event: u8,
+    memory: &mut [u8],
+    output: &mut [u8],
+) -> Answered
+    ensures { λ r. ⌜ EventForC (now (sheet .entry)) state held event (now (memory .entry)) (now (output .entry)) r (now (memory .exit)) (now (output .exit)) ⌝ }
+{
+    let run = Run {
+        state: StateNo(state),
+        held,
+    };
+    match monitor::event(sheet, run, EventNo(event), memory, output) {
+        Answer::Taken {
+            operation,
+            run,
+            released,
+        } => {
+            let next = run.state;
+            Answered {
+                refusal: 0,
+                a: 0,
+                b: 0,
+                operation: operation.mark(),
+                state: next.0,
+                held: run.held,
+                released,
+            }
+        }
+        Answer::Refused(refusal) => {
+            let told = refusal.told();
+            Answered {
+                refusal: told.number,
+                a: told.a,
+                b: told.b,
+                operation: 0,
+                state,
+                held,
+                released: 0,
+            }
+        }
+    }
+}

@@ -1,0 +1,12 @@
+pub mod PlacingLaws
+pub mod TextLaws
+pub mod LineLaws
+pub mod LoopLaws
+pub mod StopLaws
+pub mod CellLaws
+pub mod OperationLaws
+pub mod MonitorLaws
+pub mod LengthLaws
+pub mod PrintLaws
+pub mod Example
+pub mod OneAnswer

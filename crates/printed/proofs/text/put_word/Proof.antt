@@ -1,0 +1,32 @@
+-- `printed::text::put_word` meets its contract: the word is copied to the front of the lent rest.
+-- Assumes nothing.
+use borrow.Author.Needs.{needs}
+use Rattle.printed.proofs.PlacingLaws.{put-copy}
+use Rattle.printed.proofs.text.put_word.Statement.{statement}
+use Rattle.printed.proofs.text.put_word.Tie as tie
+
+sub-copy : tie.Need-sub-copy
+sub-copy c = search needs
+
+part-copy-start : tie.Need-part-copy-start
+part-copy-start c = search needs
+
+part-copy-end : tie.Need-part-copy-end
+part-copy-end c = search needs
+
+copy-requires : tie.Need-copy-requires
+copy-requires c κs = search needs
+
+add-result : tie.Need-add-result
+add-result c = search needs
+
+same-length : tie.Need-same-length
+same-length c = search needs
+
+returns : tie.Need-returns
+returns c = put-copy (c .before .before .before .before .before .before .args .out .now) _ _ _ (c .before .before .before .before .before .before .pre) (c .before .before .copy .ensures)
+
+pub put-word-spec : {M : Type 1} → statement M
+put-word-spec =
+    tie.close
+    (tie.spec sub-copy part-copy-start part-copy-end copy-requires add-result same-length returns)

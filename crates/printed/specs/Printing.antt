@@ -1,0 +1,127 @@
+-- The printed monitor of a rule file.
+-- Assumes nothing.
+use Prim.Native.Nat.{ℕ, zero, suc, _<_}
+use mathlib.Core.Path.{_≡_}
+use mathlib.Core.Bool.{Bool, true, false, cond}
+use mathlib.Core.List.{List, [], _∷_, _++_}
+use lib.ListN.{length, getD}
+use lib.Dec.{leb}
+use Rattle.rule.specs.Drawing.{Drawing, states, events, next}
+use Rattle.rule.specs.Operations.{operationAt}
+use Rattle.rule.specs.Stopping.{stopping}
+use Rattle.rule.specs.Refusals.{toldOf}
+use Rattle.rule.specs.declared.Operation.{Operation}
+use Rattle.rule.specs.declared.Operation.the-variants.{Halt, Store, Dump}
+use Rattle.rule.specs.declared.Refusal.the-variants.{Room}
+use Rattle.rule.specs.declared.Shape.{Shape}
+use Rattle.rule.specs.declared.Told.{Told}
+use Rattle.rule.specs.declared.Verdict.{Verdict}
+use Rattle.rule.specs.declared.Verdict.the-variants.{Sound, Refused as Unsound}
+use Rattle.rulefile.specs.Layout.{drawingIn, flatUpTo}
+use Rattle.rulefile.specs.Reading.{verdictOn}
+use Rattle.rulefile.specs.Writing.{outputBy}
+use Rattle.rulefile.specs.declared.Written.{Written}
+use Rattle.rulefile.specs.declared.Written.the-variants.{Done, Refused}
+use Rattle.printed.specs.Text.{decimal, spaced, line}
+
+-- the words rule, stop, refused, -
+abbrev pub ruleWord : List ℕ
+ruleWord = 114 ∷ 117 ∷ 108 ∷ 101 ∷ []
+
+abbrev pub stopWord : List ℕ
+stopWord = 115 ∷ 116 ∷ 111 ∷ 112 ∷ []
+
+abbrev pub refusedWord : List ℕ
+refusedWord = 114 ∷ 101 ∷ 102 ∷ 117 ∷ 115 ∷ 101 ∷ 100 ∷ []
+
+abbrev pub noneWord : List ℕ
+noneWord = 45 ∷ []
+
+-- the words halt, store, dump
+abbrev pub operationWord : Operation → List ℕ
+operationWord Halt = 104 ∷ 97 ∷ 108 ∷ 116 ∷ []
+operationWord Store = 115 ∷ 116 ∷ 111 ∷ 114 ∷ 101 ∷ []
+operationWord Dump = 100 ∷ 117 ∷ 109 ∷ 112 ∷ []
+
+-- header: class, N, K, m, initial state
+abbrev pub headerWords : Shape → List (List ℕ)
+headerWords s = decimal (s .class) ∷ decimal (s .states) ∷ decimal (s .events) ∷ decimal (s .pairs) ∷ decimal (s .initial .0) ∷ []
+
+unfoldable pub header : Shape → List ℕ
+header s = line ruleWord (headerWords s)
+
+-- a cell: state, event, next state, operation
+abbrev pub moveWords : ℕ → ℕ → Operation → List (List ℕ)
+moveWords e t operation = decimal e ∷ decimal t ∷ operationWord operation ∷ []
+
+unfoldable pub cellLine : ℕ → ℕ → ℕ → Operation → List ℕ
+cellLine s e t operation = line (decimal s) (moveWords e t operation)
+
+-- the cells of state s at the k events
+unfoldable pub rowLines : (ℕ → ℕ → ℕ) → (ℕ → Operation) → ℕ → ℕ → List ℕ
+rowLines next operation k s = flatUpTo (λ e. cellLine s e (next s e) (operation (next s e))) k
+
+-- the cells of the n states, row by row
+unfoldable pub cellLines : (ℕ → ℕ → ℕ) → (ℕ → Operation) → ℕ → ℕ → List ℕ
+cellLines next operation k n = flatUpTo (rowLines next operation k) n
+
+-- the number q where it has a property
+abbrev pub thatOne : (ℕ → Bool) → ℕ → List (List ℕ)
+thatOne has q = cond (has q) (decimal q ∷ []) []
+
+-- the numbers below n that have it, rising
+unfoldable pub thoseBelow : (ℕ → Bool) → ℕ → List (List ℕ)
+thoseBelow has zero = []
+thoseBelow has (suc q) = thoseBelow has q ++ thatOne has q
+
+-- it after a space where it has the property
+abbrev pub stopAt : (ℕ → Bool) → ℕ → List ℕ
+stopAt has q = spaced (thatOne has q)
+
+-- whether an operation is halt: a state is stopping where a move into it halts
+abbrev pub halts : Operation → Bool
+halts Halt = true
+halts Store = false
+halts Dump = false
+
+-- an array that has, at each state of the rule, the operation of a move into it
+pub record Operations (d : Drawing) (l : List Operation) : Type 0 where
+  pub each : (q : ℕ) → q < states d → getD l q Halt ≡ operationAt d q
+
+-- or - where there is none
+abbrev pub orNone : List (List ℕ) → List (List ℕ)
+orNone [] = noneWord ∷ []
+orNone (w ∷ ws) = w ∷ ws
+
+-- last: the stopping states among the n
+unfoldable pub stopLine : (ℕ → Bool) → ℕ → List ℕ
+stopLine stopping n = line stopWord (orNone (thoseBelow stopping n))
+
+-- the monitor of a drawing
+unfoldable pub monitorText : Drawing → List ℕ
+monitorText d =
+    header (d .shape) ++ (cellLines (next d) (operationAt d) (events d) (states d) ++ stopLine (stopping d) (states d))
+
+-- a refusal: only its number and places
+abbrev pub refusalWords : Told → List (List ℕ)
+refusalWords t = decimal (t .number) ∷ decimal (t .a) ∷ decimal (t .b) ∷ []
+
+unfoldable pub refusalLine : Told → List ℕ
+refusalLine t = line refusedWord (refusalWords t)
+
+abbrev pub textBy : Verdict → Drawing → List ℕ
+textBy Sound d = monitorText d
+textBy (Unsound r) d = refusalLine (toldOf r)
+
+-- what is printed of a file
+unfoldable pub textOf : List ℕ → List ℕ
+textOf f = textBy (verdictOn f) (drawingIn f)
+
+-- an output of 32,768 bytes has room for the text of any file, and a shorter one is refused 16
+abbrev pub printedBy : List ℕ → ℕ → Written
+printedBy text room = cond (leb 32768 room) (Done (length text)) (Refused Room)
+
+-- the promise of printing: the text stands at the front, and every other byte stays
+pub record PrintPromise (f out : List ℕ) (w : Written) (out′ : List ℕ) : Type 0 where
+  pub answer : w ≡ printedBy (textOf f) (length out)
+  pub output : out′ ≡ outputBy (printedBy (textOf f) (length out)) (textOf f) out

@@ -1,0 +1,26 @@
+-- Text as bytes: numbers in decimal, and lines of words.
+-- Assumes nothing.
+use Prim.Native.Nat.{ℕ, _+_, _/_, _%_}
+use mathlib.Core.Bool.{cond}
+use mathlib.Core.List.{List, [], _∷_, _++_}
+use lib.Dec.{ltb}
+
+-- a digit below 10
+abbrev pub digit : ℕ → ℕ
+digit n = 48 + n
+
+-- a number below 1,000 in decimal, with no zero before it
+unfoldable pub decimal : ℕ → List ℕ
+decimal n =
+    cond (ltb n 10) (digit n ∷ [])
+    (cond (ltb n 100) (digit (n / 10) ∷ digit (n % 10) ∷ [])
+    (digit (n / 100) ∷ digit (n / 10 % 10) ∷ digit (n % 10) ∷ []))
+
+-- each word after a space
+unfoldable pub spaced : List (List ℕ) → List ℕ
+spaced [] = []
+spaced (w ∷ ws) = (32 ∷ w) ++ spaced ws
+
+-- a line: a word, each further one after a space, and byte 10
+unfoldable pub line : List ℕ → List (List ℕ) → List ℕ
+line first words = first ++ (spaced words ++ (10 ∷ []))

@@ -1,0 +1,193 @@
+//! Runs each case of the benchmark on each side between two marks; the plugin of host/insn.c counts, the script `bench`
+//! makes the table. For every measured loop a line goes to standard output: mark, case, side, calls.
+//!
+//! The side "loop" is the loop without the call; its cost is to be taken off the others'. Before anything is measured,
+//! all sides must give the same answers and the same bytes.
+
+#[allow(dead_code)]
+mod dice;
+mod library;
+#[allow(dead_code)]
+mod monitor;
+mod plain;
+
+use dice::Dice;
+use library::{Answer, Made};
+use monitor::{Pair, Rule, Run};
+use std::arch::asm;
+
+const MARK: u64 = 0x70616368;
+
+/// A system call that no kernel has: it fails at once, and the plugin sees it.
+#[inline(always)]
+fn mark(number: u64) {
+    unsafe {
+        asm!("syscall", inlateout("rax") MARK => _, in("rdi") number, lateout("rcx") _, lateout("r11") _, options(nostack));
+    }
+}
+
+/// The compiler must have the value in memory here.
+#[inline(always)]
+fn keep<T>(value: &T) {
+    unsafe { asm!("/* {0} */", in(reg) value, options(nostack, preserves_flags)) }
+}
+
+/// The same slice, of which the compiler knows nothing any more.
+#[inline(always)]
+fn unknown(slice: &[u8]) -> &[u8] {
+    let (mut start, mut len) = (slice.as_ptr(), slice.len());
+    unsafe {
+        asm!("/* {0} {1} */", inout(reg) start, inout(reg) len, options(nostack, preserves_flags));
+        std::slice::from_raw_parts(start, len)
+    }
+}
+
+struct Step {
+    state: u8,
+    held: usize,
+    event: u8,
+}
+
+struct Bench {
+    last: u64,
+}
+
+impl Bench {
+    /// Once to warm up, once between marks.
+    #[inline(never)]
+    fn drive<T, F: FnMut(&T)>(&mut self, case: &str, side: &str, items: &[T], mut call: F) {
+        for round in 0..2 {
+            if round == 1 {
+                self.last += 1;
+                mark(0);
+            }
+            for item in items {
+                call(item);
+            }
+        }
+        mark(self.last);
+        println!("{}\t{}\t{}\t{}", self.last, case, side, items.len());
+    }
+
+    fn events(&mut self, case: &str, sheet: &[u8], steps: &[Step]) {
+        const ROOM: usize = 64;
+        let (mut memory, mut output) = ([0u8; ROOM], [0u8; ROOM]);
+        for s in steps {
+            let (mut m1, mut o1, mut m2, mut o2) = (memory, output, memory, output);
+            let library: Answer = library::event(sheet, s.state, s.held, s.event, &mut m1, &mut o1);
+            let plain: Answer = plain::event(sheet, s.state, s.held, s.event, &mut m2, &mut o2);
+            assert!(library == plain && m1 == m2 && o1 == o2, "{}: {:?} and {:?}", case, library, plain);
+            assert!(library.refusal == 0);
+        }
+        self.drive(case, "loop", steps, |s| keep(&(unknown(sheet), s.state, s.held, s.event)));
+        self.drive(case, "library", steps, |s| {
+            keep(&library::event(unknown(sheet), s.state, s.held, s.event, &mut memory, &mut output))
+        });
+        self.drive(case, "plain", steps, |s| {
+            keep(&plain::event(unknown(sheet), s.state, s.held, s.event, &mut memory, &mut output))
+        });
+    }
+
+    /// Making with an output of the given length; with none, all is read and checked and then refused 16.
+    fn making(&mut self, case: &str, rule: &Rule, room: usize) {
+        let file = monitor::layout(rule);
+        let mut sheets = [vec![1; room], vec![1; room], vec![1; room], vec![1; room]];
+        let answers: [Made; 3] =
+            [library::make(&file, &mut sheets[0]), plain::make(&file, &mut sheets[1]), plain::make_best(&file, &mut sheets[2])];
+        let second = monitor::make(&file, &mut sheets[3]).map_err(|r| r.no);
+        let agree = answers.iter().all(|a| *a == answers[0]) && sheets.iter().all(|s| *s == sheets[0]);
+        assert!(agree && (answers[0].refusal == 0) == second.is_ok(), "{}: {:?} and {:?}", case, answers, second);
+        assert!(answers[0].refusal == if room == 0 { 16 } else { 0 }, "{}: {:?}", case, answers[0]);
+        let sheet = &mut sheets[0][..];
+        let turns = [(); 3];
+        self.drive(case, "loop", &turns, |_| keep(&unknown(&file)));
+        self.drive(case, "library", &turns, |_| keep(&library::make(unknown(&file), sheet)));
+        self.drive(case, "plain", &turns, |_| keep(&plain::make(unknown(&file), sheet)));
+        self.drive(case, "best", &turns, |_| keep(&plain::make_best(unknown(&file), sheet)));
+    }
+}
+
+// ---------------------------------------------------------------------------------------------- the cases
+
+fn rule(class: usize, rows: Vec<Vec<usize>>, pairs: Vec<Pair>) -> Rule {
+    Rule { class, states: rows.len(), events: rows[0].len(), initial: 0, note: vec![], rows, pairs }
+}
+
+/// Setups: 0 backsight, 1 foresight, 2 disturbed (the paper's rule A).
+fn setups() -> Rule {
+    rule(4, vec![vec![1, 2, 0], vec![2, 0, 2], vec![2, 2, 2]], vec![Pair { r: vec![0], p: vec![] }])
+}
+
+/// Everything is held until event 1 (the paper's rule G).
+fn waiting() -> Rule {
+    rule(2, vec![vec![0, 1], vec![1, 1]], vec![Pair { r: vec![1], p: vec![] }])
+}
+
+/// A crew's days on the setups' sheet: mostly backsight and foresight, now and then a disturbed setup between two, and a
+/// mistake that ends the run; the next day starts afresh.
+fn days(sheet: &[u8], steps: usize) -> Vec<Step> {
+    let mut dice = Dice::new(1, 0);
+    let mut run = Run { state: 0, held: 0 };
+    let mut list = Vec::new();
+    let (mut memory, mut output) = ([0; 64], [0; 64]);
+    while list.len() < steps {
+        let right = if run.state == 0 {
+            if dice.one_in(10) {
+                2
+            } else {
+                0
+            }
+        } else {
+            1
+        };
+        let event = if dice.one_in(40) { dice.below(3) as u8 } else { right };
+        list.push(Step { state: run.state, held: run.held, event });
+        run = monitor::event(sheet, run, event, &mut memory, &mut output).map(|t| t.run).unwrap_or(run);
+        if run.state == 2 && dice.one_in(3) {
+            run = Run { state: 0, held: 0 };
+        }
+    }
+    list
+}
+
+fn set(states: std::ops::Range<usize>) -> Vec<usize> {
+    states.collect()
+}
+
+/// Tables by chance over 56 states, with eight more that are never left.
+fn by_chance() -> Rule {
+    let mut dice = Dice::new(2, 0);
+    let rows = (0..64).map(|s| (0..32).map(|_| if s < 56 { dice.below(64) } else { s }).collect()).collect();
+    let pairs = (0..8).map(|i| Pair { r: set(56..57 + i), p: if i % 2 == 1 { set(0..56) } else { vec![] } }).collect();
+    rule(3, rows, pairs)
+}
+
+/// Each state leads to the next one only.
+fn chain() -> Rule {
+    let rows = (0..64usize).map(|s| vec![(s + 1).min(63); 32]).collect();
+    let pairs = (0..8).map(|i| Pair { r: set(63 - i..64), p: if i % 2 == 1 { set(0..1 + i) } else { vec![] } }).collect();
+    rule(3, rows, pairs)
+}
+
+/// No state is ever left.
+fn self_loops() -> Rule {
+    let rows = (0..64).map(|s| vec![s; 32]).collect();
+    let pairs = (0..8).map(|i| Pair { r: set(0..8 * i + 1), p: set(32..40 + i) }).collect();
+    rule(3, rows, pairs)
+}
+
+fn main() {
+    let mut bench = Bench { last: 0 };
+    let (setups, waiting) = (monitor::sheet(&setups()), monitor::sheet(&waiting()));
+    let steps = |f: &dyn Fn(usize) -> (u8, usize, u8)| -> Vec<Step> {
+        (0..4096).map(f).map(|(state, held, event)| Step { state, held, event }).collect()
+    };
+    bench.events("one event, all dump", &setups, &steps(&|_| (0, 0, 2)));
+    bench.events("one event, all store", &waiting, &steps(&|i| (0, i % 64, 0)));
+    bench.events("one event, halting", &setups, &steps(&|i| (2, i % 3, (i % 3) as u8)));
+    bench.events("one event, days of a crew", &setups, &days(&setups, 4096));
+    for (name, rule) in [("random", by_chance()), ("chain", chain()), ("self-loops", self_loops())] {
+        bench.making(&format!("reading, {}", name), &rule, 0);
+        bench.making(&format!("making a sheet, {}", name), &rule, 2054);
+    }
+}

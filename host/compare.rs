@@ -1,0 +1,762 @@
+//! Compares the proved library, through its C interface, with a second monitor written from the paper alone.
+//!
+//!     compare [--seed N] [--files N] [--only N]
+//!
+//! Rule files (sound and damaged), sheets (made and spoiled), run states, events and lent buffers all come from the
+//! seed, so a run can be repeated. Every answer and every byte of every buffer, guard bytes around it included, must
+//! be equal; each history on a made sheet is judged by the oracle; what the program `table` prints is compared where
+//! the environment variable PACHALLU_TABLE holds the shell words that start it. The run fails, too, where one of the
+//! refusals 1 to 9 and 11 to 16 was met fewer than 20 times.
+
+mod dice;
+mod draw;
+mod library;
+mod monitor;
+mod oracle;
+
+use dice::Dice;
+use draw::Lent;
+use library::{Answer, Made, Start};
+use monitor::{Pair, Refusal, Rule, Run};
+use oracle::History;
+use std::io::Write;
+use std::process::{exit, Command, Stdio};
+
+/// How often each refusal must be met at least.
+const ENOUGH: usize = 20;
+/// How many files of one kind (a class, or a refusal number) are printed by `table`: starting it takes time.
+const PRINTED_SOUND: usize = 40;
+const PRINTED_REFUSED: usize = 15;
+
+// ---------------------------------------------------------------------------------------------- the expected answers
+
+fn expected_made(answer: Result<usize, Refusal>) -> Made {
+    match answer {
+        Ok(written) => Made { refusal: 0, a: 0, b: 0, written },
+        Err(r) => Made { refusal: r.no, a: r.a, b: r.b, written: 0 },
+    }
+}
+
+fn expected_start(answer: Result<Run, Refusal>) -> Start {
+    match answer {
+        Ok(run) => Start { refusal: 0, a: 0, b: 0, state: run.state, held: run.held },
+        Err(r) => Start { refusal: r.no, a: r.a, b: r.b, state: 0, held: 0 },
+    }
+}
+
+fn expected_answer(given: Run, answer: Result<monitor::Taken, Refusal>) -> Answer {
+    match answer {
+        Ok(t) => Answer {
+            refusal: 0,
+            a: 0,
+            b: 0,
+            operation: t.operation.number(),
+            state: t.run.state,
+            held: t.run.held,
+            released: t.released,
+        },
+        Err(r) => Answer { refusal: r.no, a: r.a, b: r.b, operation: 0, state: given.state, held: given.held, released: 0 },
+    }
+}
+
+// ---------------------------------------------------------------------------------------------- telling a difference
+
+fn hex(bytes: &[u8]) -> String {
+    let mut text = format!("({} bytes)", bytes.len());
+    for (i, byte) in bytes.iter().enumerate() {
+        text.push_str(if i % 32 == 0 && bytes.len() > 32 { "\n            " } else { " " });
+        text.push_str(&format!("{:02x}", byte));
+    }
+    text
+}
+
+fn differ<T: std::fmt::Debug>(call: &str, library: T, second: T) -> String {
+    format!("{}\n  the answers differ\n  library   {:?}\n  second    {:?}", call, library, second)
+}
+
+/// What the call was given, for the message.
+fn situation(sheet: &Lent, memory: Option<&Lent>) -> String {
+    let mut text = format!("\n  sheet     {}", hex(sheet.bytes()));
+    if let Some(memory) = memory {
+        text.push_str(&format!("\n  memory    {} before the call", hex(memory.bytes())));
+    }
+    text
+}
+
+/// Are both buffers the same, guards included? If not, says where.
+fn same_bytes(call: &str, name: &str, library: &Lent, second: &Lent) -> Result<(), String> {
+    if library == second {
+        return Ok(());
+    }
+    let mut text = format!("{}\n  the answers agree, but not the bytes of the {}", call, name);
+    if library.guards() != second.guards() {
+        text.push_str(&format!("\n  bytes OUTSIDE the lent {} were written", name));
+    }
+    text.push_str(&format!("\n  library   {}\n  second    {}", hex(library.bytes()), hex(second.bytes())));
+    Err(text)
+}
+
+/// Bytes that are only read must stay.
+fn untouched(call: &str, name: &str, before: &Lent, after: &Lent) -> Result<(), String> {
+    if before == after {
+        return Ok(());
+    }
+    Err(format!("{}\n  the library wrote into the {}, which is only to be read", call, name))
+}
+
+// ---------------------------------------------------------------------------------------------- counting
+
+#[derive(Default)]
+struct Counts {
+    files: usize,
+    sound: [usize; 5],
+    /// Sound rules by their number of pairs, and those of the least and the greatest size.
+    pairs: [usize; 9],
+    least: usize,
+    greatest: usize,
+    damaged_but_sound: usize,
+    made: [usize; 17],
+    events: usize,
+    taken: [usize; 3],
+    dumped_held: usize,
+    event: [usize; 17],
+    starts: [usize; 2],
+    histories: usize,
+    halted: usize,
+    printed_sound: [usize; 5],
+    printed_refused: [usize; 17],
+    printed_other: usize,
+    /// Refusals whose places were not the easy ones: 5, 8 and 14 with both places over 0, 6 in P only and not in the
+    /// first pair, 9 by a later pair.
+    places: [usize; 17],
+    memory_lengths: Vec<bool>,
+    output_lengths: Vec<bool>,
+}
+
+struct Comparison {
+    counts: Counts,
+    /// The shell words that start the program `table`.
+    table: Option<String>,
+    /// The rule file that the calls at hand go back to.
+    file: Vec<u8>,
+}
+
+impl Comparison {
+    // ------------------------------------------------------------------------------------------ the three calls
+
+    fn make(&mut self, dice: &mut Dice, file: &[u8], room: usize) -> Result<(Made, Lent), String> {
+        self.file = file.to_vec();
+        let call = format!("pachallu_make(rule file of {} bytes, sheet of {} bytes)", file.len(), room);
+        let lent = Lent::of(dice, file);
+        let kept = lent.clone();
+        let mut sheet = Lent::blank(dice, room);
+        let mut twin = sheet.clone();
+        let library = library::make(lent.bytes(), sheet.bytes_mut());
+        let second = expected_made(monitor::make(file, twin.bytes_mut()));
+        if library != second {
+            return Err(differ(&call, library, second));
+        }
+        same_bytes(&call, "sheet", &sheet, &twin)?;
+        untouched(&call, "rule file", &kept, &lent)?;
+        self.counts.made[second.refusal as usize] += 1;
+        let hard = match second.refusal {
+            5 | 8 => second.a > 0 && second.b > 0,
+            6 => second.a > 0 && second.b == 1,
+            9 => second.a > 0,
+            _ => false,
+        };
+        self.counts.places[second.refusal as usize] += hard as usize;
+        Ok((library, sheet))
+    }
+
+    fn fresh(&mut self, sheet: &Lent) -> Result<Start, String> {
+        let call = format!("pachallu_fresh(sheet of {} bytes)", sheet.bytes().len());
+        let kept = sheet.clone();
+        let library = library::fresh(sheet.bytes());
+        let second = expected_start(monitor::fresh(sheet.bytes()));
+        if library != second {
+            return Err(differ(&call, library, second) + &situation(sheet, None));
+        }
+        untouched(&call, "sheet", &kept, sheet)?;
+        self.counts.starts[(second.refusal != 0) as usize] += 1;
+        Ok(library)
+    }
+
+    /// One event on both sides; the memory is left as both left it. Gives the answer and the output.
+    fn event(
+        &mut self,
+        dice: &mut Dice,
+        sheet: &Lent,
+        run: Run,
+        event: u8,
+        memory: &mut Lent,
+        room: usize,
+    ) -> Result<(Answer, Lent), String> {
+        let before = memory.clone();
+        let call = || {
+            format!(
+                "pachallu_event(sheet of {} bytes, state {}, held {}, event {}, memory of {} bytes, output of {} bytes)",
+                sheet.bytes().len(),
+                run.state,
+                run.held,
+                event,
+                before.bytes().len(),
+                room
+            )
+        };
+        let around = |fault: String| fault + &situation(sheet, Some(&before));
+        let kept = sheet.clone();
+        let mut twin = memory.clone();
+        let mut output = Lent::blank(dice, room);
+        let mut twin_output = output.clone();
+        let library = library::event(sheet.bytes(), run.state, run.held, event, memory.bytes_mut(), output.bytes_mut());
+        let second = expected_answer(run, monitor::event(sheet.bytes(), run, event, twin.bytes_mut(), twin_output.bytes_mut()));
+        if library != second {
+            return Err(around(differ(&call(), library, second)));
+        }
+        if *memory != twin || output != twin_output || kept != *sheet {
+            same_bytes(&call(), "memory", memory, &twin).map_err(around)?;
+            same_bytes(&call(), "output", &output, &twin_output).map_err(around)?;
+            untouched(&call(), "sheet", &kept, sheet).map_err(around)?;
+        }
+        self.counts.events += 1;
+        self.counts.event[second.refusal as usize] += 1;
+        if second.refusal == 0 {
+            self.counts.taken[second.operation as usize] += 1;
+            self.counts.dumped_held += (second.released > 1) as usize;
+        }
+        self.counts.places[14] += (second.refusal == 14 && second.a > 0 && second.b > 0) as usize;
+        mark(&mut self.counts.memory_lengths, before.bytes().len());
+        mark(&mut self.counts.output_lengths, room);
+        Ok((library, output))
+    }
+
+    // ------------------------------------------------------------------------------------------ one rule file
+
+    /// Makes sheets from the file with outputs of several lengths, then runs the sheet.
+    fn file(&mut self, dice: &mut Dice, file: &[u8]) -> Result<(), String> {
+        self.counts.files += 1;
+        let drawn = monitor::read(file);
+        self.table(file, &drawn)?;
+        let rule = match drawn {
+            Ok(rule) => rule,
+            Err(_) => {
+                let room = dice.pick(&[0, 5, 40, 2054, 2100]);
+                self.make(dice, file, room)?;
+                return Ok(());
+            }
+        };
+        self.counts.sound[rule.class] += 1;
+        self.counts.pairs[rule.pairs.len()] += 1;
+        self.counts.least += (rule.states == 1 && rule.events == 1) as usize;
+        self.counts.greatest += (rule.states == monitor::STATES && rule.events == monitor::EVENTS) as usize;
+        self.round_trip(&rule, file)?;
+        let size = rule.states * rule.events + 6;
+        for room in [0, dice.below(size), size - 1, size + 1 + dice.below(40)] {
+            if dice.one_in(3) {
+                self.make(dice, file, room)?;
+            }
+        }
+        let (made, sheet) = self.make(dice, file, size)?;
+        if made.written != size {
+            return Err(format!("a sheet of {} bytes was expected, {} were written", size, made.written));
+        }
+        for _ in 0..3 {
+            self.history(dice, &rule, &sheet)?;
+        }
+        self.wild(dice, &sheet)?;
+        for _ in 0..3 {
+            let bytes = draw::spoiled(dice, sheet.bytes());
+            let spoiled = Lent::of(dice, &bytes);
+            self.wild(dice, &spoiled)?;
+        }
+        Ok(())
+    }
+
+    /// The second monitor with itself: writing what was read gives the file back, one byte less room is refused 16.
+    fn round_trip(&self, rule: &Rule, file: &[u8]) -> Result<(), String> {
+        let mut exact = vec![0; file.len()];
+        let mut short = vec![0; file.len() - 1];
+        let told = (monitor::write(rule, &mut exact), monitor::write(rule, &mut short).map_err(|r| r.no));
+        if told != (Ok(file.len()), Err(16)) || exact != file || short.iter().any(|&byte| byte != 0) {
+            return Err(format!("the second monitor does not write back what it read: {:?}", told));
+        }
+        Ok(())
+    }
+
+    /// A run from a fresh start on a made sheet, with one memory and an output of any length for each call.
+    fn history(&mut self, dice: &mut Dice, rule: &Rule, sheet: &Lent) -> Result<(), String> {
+        let start = self.fresh(sheet)?;
+        let mut run = Run { state: start.state, held: start.held };
+        let room = match dice.below(8) {
+            0 => 0,
+            1..=3 => 1 + dice.below(4),
+            4 => dice.below(65),
+            5 => 200,
+            _ => 5 + dice.below(20),
+        };
+        let mut memory = Lent::blank(dice, room);
+        let mut told = History { taken: vec![], operations: vec![], released: vec![], held: vec![] };
+        let mut left = dice.below(100);
+        let holding = dice.one_in(2);
+        while left > 0 {
+            left -= 1;
+            let mut e = dice.below(rule.events);
+            for _ in 0..dice.pick(&[0, 4, 40]) {
+                // mostly go on, and in some histories rather hold than release
+                let cell = sheet.bytes()[run.state as usize * rule.events + e];
+                if cell < 64 || (holding && cell >= 128) {
+                    e = dice.below(rule.events);
+                }
+            }
+            if dice.one_in(40) {
+                e = dice.pick(&[rule.events, rule.events + 1, 64, 255]);
+            }
+            let lent = match dice.below(8) {
+                0 => dice.below(run.held + 2),
+                1 => dice.below(40),
+                2 | 3 => run.held + 1,
+                _ => run.held + 1 + dice.below(6),
+            };
+            if dice.one_in(4) {
+                // what lies past the held events is nobody's, and may change between two calls
+                let held = run.held;
+                for byte in memory.bytes_mut()[held..].iter_mut() {
+                    *byte = dice.byte();
+                }
+            }
+            let (answer, output) = self.event(dice, sheet, run, e as u8, &mut memory, lent)?;
+            if answer.refusal == 0 {
+                told.taken.push(e as u8);
+                told.operations.push(answer.operation);
+                told.released.extend_from_slice(&output.bytes()[..answer.released]);
+                if answer.operation == 0 {
+                    left = left.min(dice.below(8));
+                }
+            }
+            run = Run { state: answer.state, held: answer.held };
+        }
+        told.held = memory.bytes()[..run.held].to_vec();
+        self.counts.histories += 1;
+        self.counts.halted += told.operations.contains(&0) as usize;
+        oracle::judge(rule, &told).map_err(|fault| {
+            format!(
+                "a history on a made sheet is against the rule: {}\n  taken     {:?}\n  answered  {:?} (0 halt, 1 store, 2 dump)\n  sheet     {}",
+                fault,
+                told.taken,
+                told.operations,
+                hex(sheet.bytes())
+            )
+        })
+    }
+
+    /// Calls from anywhere on a sheet of any kind: run states, events and lengths by chance, the impossible ones too.
+    fn wild(&mut self, dice: &mut Dice, sheet: &Lent) -> Result<(), String> {
+        self.fresh(sheet)?;
+        let (n, k) = match monitor::open(sheet.bytes()) {
+            Ok(opened) => (opened.states, opened.events),
+            Err(_) => (1 + dice.below(64), 1 + dice.below(32)),
+        };
+        let room = dice.below(10);
+        let mut memory = Lent::blank(dice, room);
+        let mut run = Run { state: dice.below(n) as u8, held: dice.below(room + 1) };
+        for _ in 0..8 {
+            match dice.below(10) {
+                0 => run.state = dice.pick(&[n, n + 1, 64, 128, 255]) as u8,
+                1 => run.held = dice.pick(&[room + 1, room + 7, usize::MAX, usize::MAX / 2 + 1, 1 << 32]),
+                2 => run = Run { state: dice.byte(), held: dice.below(room + 3) },
+                3..=5 => run = Run { state: dice.below(n) as u8, held: dice.below(room + 1) },
+                _ => {}
+            }
+            let e = if dice.one_in(8) { dice.pick(&[k, k + 1, 32, 255]) as u8 } else { dice.below(k) as u8 };
+            let lent = dice.below(12);
+            let (answer, _) = self.event(dice, sheet, run, e, &mut memory, lent)?;
+            run = Run { state: answer.state, held: answer.held };
+            if answer.refusal == 12 {
+                run = Run { state: dice.below(n) as u8, held: dice.below(room + 1) };
+            }
+        }
+        Ok(())
+    }
+
+    // ------------------------------------------------------------------------------------------ the program `table`
+
+    fn table(&mut self, file: &[u8], drawn: &Result<Rule, Refusal>) -> Result<(), String> {
+        let (done, most) = match drawn {
+            Ok(rule) => (&mut self.counts.printed_sound[rule.class], PRINTED_SOUND),
+            Err(refusal) => (&mut self.counts.printed_refused[refusal.no as usize], PRINTED_REFUSED),
+        };
+        if self.table.is_none() || *done >= most {
+            return Ok(());
+        }
+        *done += 1;
+        self.print(file)
+    }
+
+    fn print(&mut self, file: &[u8]) -> Result<(), String> {
+        let words = match &self.table {
+            Some(words) => words,
+            None => return Ok(()),
+        };
+        self.file = file.to_vec();
+        let call = format!("{} < a rule file of {} bytes", words, file.len());
+        let printed = run_program(words, file).map_err(|fault| format!("{}\n  {}", call, fault))?;
+        let wanted = monitor::printed(file);
+        if printed == wanted.as_bytes() {
+            return Ok(());
+        }
+        let text = String::from_utf8_lossy(&printed).into_owned();
+        let (mut ours, mut theirs) = (wanted.split('\n'), text.split('\n'));
+        let mut line = 0;
+        loop {
+            line += 1;
+            let (second, program) = (ours.next(), theirs.next());
+            if second != program || second.is_none() {
+                return Err(format!(
+                    "{}\n  the printed texts differ in line {}\n  program   {:?}\n  second    {:?}",
+                    call, line, program, second
+                ));
+            }
+        }
+    }
+}
+
+fn run_program(words: &str, input: &[u8]) -> Result<Vec<u8>, String> {
+    let mut child = Command::new("sh")
+        .arg("-c")
+        .arg(format!("exec {}", words))
+        .stdin(Stdio::piped())
+        .stdout(Stdio::piped())
+        .spawn()
+        .map_err(|e| format!("the program cannot be started: {}", e))?;
+    if let Some(mut pipe) = child.stdin.take() {
+        // a program that has seen enough may stop reading
+        let _ = pipe.write_all(input);
+    }
+    let done = child.wait_with_output().map_err(|e| format!("the program's output cannot be read: {}", e))?;
+    match done.status.code() {
+        Some(code) if code < 126 => Ok(done.stdout),
+        Some(code) => Err(format!("the program cannot be run (exit status {})", code)),
+        None => Err(format!("the program was ended by a signal ({})", done.status)),
+    }
+}
+
+fn mark(lengths: &mut Vec<bool>, len: usize) {
+    if lengths.len() <= len {
+        lengths.resize(len + 1, false);
+    }
+    lengths[len] = true;
+}
+
+/// The first length that was not met.
+fn gap(lengths: &[bool]) -> usize {
+    lengths.iter().position(|&met| !met).unwrap_or(lengths.len())
+}
+
+// ---------------------------------------------------------------------------------------------- the paper's own examples
+
+fn rule(class: usize, rows: &[&[usize]], pairs: &[(&[usize], &[usize])]) -> Rule {
+    Rule {
+        class,
+        states: rows.len(),
+        events: rows[0].len(),
+        initial: 0,
+        note: vec![],
+        rows: rows.iter().map(|row| row.to_vec()).collect(),
+        pairs: pairs.iter().map(|(r, p)| Pair { r: r.to_vec(), p: p.to_vec() }).collect(),
+    }
+}
+
+impl Comparison {
+    /// The rules A, S, G, O and D, their marked runs, and the edges that the paper names. Here the expected answers
+    /// are those of the paper itself, so that the second monitor is held to it too.
+    fn paper(&mut self, dice: &mut Dice) -> Result<(), String> {
+        let a = rule(4, &[&[1, 2, 0], &[2, 0, 2], &[2, 2, 2]], &[(&[0], &[])]);
+        let s = rule(1, &[&[1, 2], &[1, 1], &[2, 2]], &[(&[], &[0, 1])]);
+        let g = rule(2, &[&[0, 1], &[1, 1]], &[(&[1], &[])]);
+        let o = rule(3, &[&[1, 2, 0], &[1, 1, 1], &[2, 2, 2]], &[(&[1], &[]), (&[2], &[])]);
+        let d = rule(4, &[&[1], &[1]], &[(&[0], &[])]);
+        let bytes: &[u8] =
+            &[1, 2, 0, 2, 0, 2, 2, 2, 2, 1, 0, 0, 0, 0, 0, 0, 0, 0, 0, 0, 0, 0, 0, 0, 0, 4, 3, 3, 1, 0, 0, 37, 0, 28, 0, 72, 82];
+        if monitor::layout(&a) != bytes {
+            return Err("the second monitor does not lay out rule A as the paper has it".to_string());
+        }
+        let text = "rule 4 3 3 1 0\n0 0 1 store\n0 1 2 halt\n0 2 0 dump\n1 0 2 halt\n1 1 0 dump\n1 2 2 halt\n2 0 2 halt\n2 1 2 halt\n2 2 2 halt\nstop 2\n";
+        if monitor::printed(bytes) != text {
+            return Err("the second monitor does not print rule A as the paper has it".to_string());
+        }
+        let (_, sheet) = self.make(dice, bytes, 15)?;
+        if sheet.bytes() != [65, 2, 128, 2, 128, 2, 2, 2, 2, 3, 3, 0, 77, 15, 0] {
+            return Err(format!("the sheet of rule A is not the paper's: {}", hex(sheet.bytes())));
+        }
+        // rule, events, released, held, place of the first halt (0: none)
+        let runs: [(&str, &Rule, &[u8], &[u8], &[u8], usize); 12] = [
+            ("A", &a, &[], &[], &[], 0),
+            ("A", &a, &[0], &[], &[0], 0),
+            ("A", &a, &[0, 1], &[0, 1], &[], 0),
+            ("A", &a, &[0, 1, 2, 0, 1, 0, 2], &[0, 1, 2, 0, 1], &[0], 7),
+            ("A", &a, &[0, 1, 2, 0, 1, 0, 2, 0], &[0, 1, 2, 0, 1], &[0], 7),
+            ("A", &a, &[1], &[], &[], 1),
+            ("S", &s, &[1], &[], &[], 1),
+            ("S", &s, &[0, 1, 1], &[0, 1, 1], &[], 0),
+            ("G", &g, &[0, 0, 1, 0], &[0, 0, 1, 0], &[], 0),
+            ("O", &o, &[2, 2], &[], &[2, 2], 0),
+            ("O", &o, &[0], &[], &[], 1),
+            ("D", &d, &[0], &[], &[], 1),
+        ];
+        for (i, (name, rule, events, released, held, halt)) in runs.iter().enumerate() {
+            let file = monitor::layout(rule);
+            let (_, sheet) = self.make(dice, &file, rule.states * rule.events + 6)?;
+            let start = self.fresh(&sheet)?;
+            let mut run = Run { state: start.state, held: start.held };
+            let mut memory = Lent::blank(dice, 8);
+            let mut told = History { taken: vec![], operations: vec![], released: vec![], held: vec![] };
+            for &e in events.iter() {
+                let (answer, output) = self.event(dice, &sheet, run, e, &mut memory, 8)?;
+                told.taken.push(e);
+                told.operations.push(answer.operation);
+                told.released.extend_from_slice(&output.bytes()[..answer.released]);
+                run = Run { state: answer.state, held: answer.held };
+            }
+            told.held = memory.bytes()[..run.held].to_vec();
+            let first = told.operations.iter().position(|&op| op == 0).map_or(0, |at| at + 1);
+            if (&told.released[..], &told.held[..], first) != (released, held, *halt) {
+                return Err(format!(
+                    "marked run {} of the paper, rule {}, events {:?}\n  paper     released {:?}, held {:?}, first halt {}\n  library   released {:?}, held {:?}, first halt {}",
+                    i + 1, name, events, released, held, halt, told.released, told.held, first
+                ));
+            }
+            oracle::judge(rule, &told)?;
+        }
+        // A with no memory refuses event 0 with 15 and then takes event 2 and releases it
+        let mut none = Lent::blank(dice, 0);
+        let (first, _) = self.event(dice, &sheet, Run { state: 0, held: 0 }, 0, &mut none, 8)?;
+        let (second, output) = self.event(dice, &sheet, Run { state: first.state, held: first.held }, 2, &mut none, 8)?;
+        if first.refusal != 15 || second.refusal != 0 || second.released != 1 || output.bytes()[0] != 2 {
+            return Err(format!("rule A with a memory of length 0: {:?}, then {:?}", first, second));
+        }
+        self.edges(dice, &a, &d)
+    }
+
+    /// The edges: sizes, notes and lengths just inside and just outside.
+    fn edges(&mut self, dice: &mut Dice, a: &Rule, d: &Rule) -> Result<(), String> {
+        let square = |n: usize, k: usize, m: usize, note: usize| Rule {
+            class: 3,
+            states: n,
+            events: k,
+            initial: 0,
+            note: vec![82; note],
+            rows: vec![vec![0; k]; n],
+            pairs: vec![Pair { r: vec![0], p: vec![] }; m],
+        };
+        let noted = |len: usize| Rule { note: vec![72; len], ..a.clone() };
+        let shortest = Rule { states: 1, rows: vec![vec![0]], ..d.clone() };
+        let cases = [
+            ("64 states", square(64, 1, 1, 0), 0),
+            ("65 states", square(65, 1, 1, 0), 3),
+            ("32 events", square(1, 32, 1, 0), 0),
+            ("33 events", square(1, 33, 1, 0), 3),
+            ("8 pairs", square(1, 1, 8, 0), 0),
+            ("9 pairs", square(1, 1, 9, 0), 3),
+            ("a note of 1,024 bytes", noted(1024), 0),
+            ("a note of 1,025 bytes", noted(1025), 4),
+            ("3,212 bytes", square(64, 32, 8, 1024), 0),
+            ("3,213 bytes", square(64, 32, 8, 1025), 1),
+            ("a note of 1,056 bytes in a file of 3,212", square(63, 32, 8, 1056), 4),
+            ("the shortest file", shortest.clone(), 0),
+        ];
+        if monitor::layout(&shortest).len() != 29 {
+            return Err("the shortest rule file is not 29 bytes long".to_string());
+        }
+        for (what, rule, refusal) in cases.iter() {
+            let file = monitor::layout(rule);
+            let (made, _) = self.make(dice, &file, 2054)?;
+            if made.refusal != *refusal {
+                return Err(format!("{}: the paper says refusal {}, the library gives {:?}", what, refusal, made));
+            }
+            self.print(&file)?;
+            self.counts.printed_other += self.table.is_some() as usize;
+        }
+        // any input gets an answer from the program, of any length
+        let long = [vec![0; 1 << 20], monitor::layout(a)].concat();
+        for input in [&[][..], &[0; 11][..], &[72, 82][..], &long[..], &long[..1 << 20]] {
+            self.print(input)?;
+            self.counts.printed_other += self.table.is_some() as usize;
+        }
+        Ok(())
+    }
+}
+
+// ---------------------------------------------------------------------------------------------- the whole
+
+struct Order {
+    seed: u64,
+    files: usize,
+    only: Option<usize>,
+}
+
+fn order() -> Result<Order, String> {
+    let mut order = Order { seed: 1, files: 3000, only: None };
+    let mut words = std::env::args().skip(1);
+    while let Some(word) = words.next() {
+        let mut number = || -> Result<u64, String> {
+            let value = words.next().ok_or_else(|| format!("{} wants a number", word))?;
+            value.parse().map_err(|_| format!("{} wants a number, not {:?}", word, value))
+        };
+        match word.as_str() {
+            "--seed" => order.seed = number()?,
+            "--files" => order.files = number()? as usize,
+            "--only" => order.only = Some(number()? as usize),
+            _ => return Err(format!("unknown word {:?}; there are --seed N, --files N, --only N", word)),
+        }
+    }
+    Ok(order)
+}
+
+/// Rule file number i of a seed: even ones sound, odd ones damaged, each way in turn.
+fn case(dice: &mut Dice, i: usize) -> (Vec<u8>, String) {
+    if i % 2 == 0 {
+        let place = i / 2;
+        let class = if place == 1 { 3 } else { 1 + (place + place / 4) % 4 };
+        (monitor::layout(&draw::sound(dice, place, class)), format!("made to be sound, class {}", class))
+    } else {
+        let (file, said) = draw::damaged(dice, i / 2, i / 2 % draw::DAMAGES);
+        (file, format!("damaged: {}", said))
+    }
+}
+
+fn list(counts: &[usize], numbers: std::ops::RangeInclusive<usize>) -> String {
+    let met: Vec<String> = numbers.filter(|&no| counts[no] > 0).map(|no| format!("{}: {}", no, counts[no])).collect();
+    if met.is_empty() {
+        return "none".to_string();
+    }
+    met.join(", ")
+}
+
+fn report(c: &Counts) {
+    println!("rule files   {} of {} sound, the others refused", c.sound.iter().sum::<usize>(), c.files);
+    println!("             by class {}; by pairs {}", list(&c.sound, 1..=4), list(&c.pairs, 1..=8));
+    println!(
+        "             {} of 1 x 1, {} of 64 x 32; {} damaged at one place and still sound",
+        c.least, c.greatest, c.damaged_but_sound
+    );
+    println!("sheets       {} made; refused {}", c.made[0], list(&c.made, 1..=16));
+    println!("fresh starts {}; refused {}", c.starts[0], c.starts[1]);
+    println!(
+        "events       halt {}, store {}, dump {} ({} with events held); refused {}",
+        c.taken[0],
+        c.taken[1],
+        c.taken[2],
+        c.dumped_held,
+        list(&c.event, 1..=16)
+    );
+    println!(
+        "             memory of every length under {}, output of every length under {}",
+        gap(&c.memory_lengths),
+        gap(&c.output_lengths)
+    );
+    println!("histories    {} judged by the definition of acceptance, {} of them with a halt", c.histories, c.halted);
+}
+
+/// What the run must have met to be worth something.
+fn lacking(c: &Counts, printing: bool) -> Vec<String> {
+    let mut faults = Vec::new();
+    for no in 1..=16 {
+        let met = c.made[no] + c.event[no];
+        if no != 10 && met < ENOUGH {
+            faults.push(format!("refusal {} was met {} times; at least {} are wanted", no, met, ENOUGH));
+        }
+        if [5, 6, 8, 9, 14].contains(&no) && c.places[no] == 0 {
+            faults.push(format!("refusal {} was never met with places other than the first", no));
+        }
+        if printing && no < 10 && c.printed_refused[no] == 0 {
+            faults.push(format!("no file with refusal {} was printed", no));
+        }
+    }
+    if c.made[10] > 0 {
+        faults.push("refusal 10 was given, though 9 always comes before it".to_string());
+    }
+    if c.event[16] < ENOUGH || c.made[16] < ENOUGH {
+        faults.push(format!(
+            "refusal 16 was met {} times in making and {} times in events; at least {} of each are wanted",
+            c.made[16], c.event[16], ENOUGH
+        ));
+    }
+    for class in 1..=4 {
+        if c.sound[class] < ENOUGH {
+            faults.push(format!("only {} sound rules of class {}", c.sound[class], class));
+        }
+    }
+    if c.pairs[1..].contains(&0) || c.least == 0 || c.greatest == 0 {
+        faults.push("sound rules with each number of pairs, of 1 x 1 and of 64 x 32 are wanted".to_string());
+    }
+    if c.taken.iter().any(|&n| n < 1000) || c.dumped_held < 1000 {
+        faults.push("at least 1000 halts, 1000 stores and 1000 dumps of held events are wanted".to_string());
+    }
+    if c.files < 2000 || c.events < 200_000 {
+        faults.push(format!("{} rule files and {} events; at least 2000 and 200000 are wanted", c.files, c.events));
+    }
+    if gap(&c.memory_lengths) < 32 || gap(&c.output_lengths) < 32 {
+        faults.push("memories and outputs of every length under 32 are wanted".to_string());
+    }
+    faults
+}
+
+fn main() {
+    let order = order().unwrap_or_else(|fault| {
+        eprintln!("compare: {}", fault);
+        exit(2);
+    });
+    let table = std::env::var("PACHALLU_TABLE").ok().filter(|words| !words.trim().is_empty());
+    let mut comparison = Comparison { counts: Counts::default(), table, file: vec![] };
+    let fail = |fault: &str, file: &[u8], said: &str, rerun: &str| -> ! {
+        let shown = if file.len() > 4096 { &file[file.len() - 4096..] } else { file };
+        eprintln!("host: the proved side and the second monitor do not agree\n  {}\n  rule file {} {}", fault, said, hex(shown));
+        eprintln!("  again     host/host-test {}", rerun);
+        exit(1);
+    };
+    if order.only.is_none() {
+        let mut dice = Dice::new(order.seed, u64::MAX);
+        if let Err(fault) = comparison.paper(&mut dice) {
+            fail(&fault, &comparison.file, "of the paper's own examples", &format!("--seed {}", order.seed));
+        }
+    }
+    let places = match order.only {
+        Some(i) => i..i + 1,
+        None => 0..order.files,
+    };
+    for i in places {
+        let mut dice = Dice::new(order.seed, i as u64);
+        let (file, said) = case(&mut dice, i);
+        if i % 2 == 1 && monitor::read(&file).is_ok() {
+            comparison.counts.damaged_but_sound += 1;
+        }
+        if let Err(fault) = comparison.file(&mut dice, &file) {
+            let rerun = format!("--seed {} --only {}", order.seed, i);
+            fail(&fault, &comparison.file, &format!("{}, {}", i, said), &rerun);
+        }
+    }
+    let c = &comparison.counts;
+    report(c);
+    let printing = comparison.table.is_some();
+    let printed = c.printed_sound.iter().sum::<usize>() + c.printed_refused.iter().sum::<usize>() + c.printed_other;
+    if printing {
+        println!(
+            "printed      {} texts: sound by class {}, refused {}, edges {}",
+            printed,
+            list(&c.printed_sound, 1..=4),
+            list(&c.printed_refused, 1..=16),
+            c.printed_other
+        );
+    } else {
+        println!("printed      no texts: PACHALLU_TABLE does not say how to start the program");
+    }
+    if order.only.is_none() {
+        let faults = lacking(c, printing);
+        if !faults.is_empty() {
+            eprintln!("host: the comparison did not try enough\n  {}", faults.join("\n  "));
+            exit(1);
+        }
+    }
+    println!("host: {} rule files, {} events, {} printed texts, all equal", c.files, c.events, printed);
+}

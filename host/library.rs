@@ -1,0 +1,76 @@
+//! The proved library as C sees it (include/pachallu.h), and its three calls on slices.
+#![allow(dead_code)]
+
+#[repr(C)]
+#[derive(Clone, Copy, PartialEq, Eq, Debug)]
+pub struct Made {
+    pub refusal: u8,
+    pub a: u8,
+    pub b: u8,
+    pub written: usize,
+}
+
+#[repr(C)]
+#[derive(Clone, Copy, PartialEq, Eq, Debug)]
+pub struct Start {
+    pub refusal: u8,
+    pub a: u8,
+    pub b: u8,
+    pub state: u8,
+    pub held: usize,
+}
+
+#[repr(C)]
+#[derive(Clone, Copy, PartialEq, Eq, Debug)]
+pub struct Answer {
+    pub refusal: u8,
+    pub a: u8,
+    pub b: u8,
+    pub operation: u8,
+    pub state: u8,
+    pub held: usize,
+    pub released: usize,
+}
+
+extern "C" {
+    fn pachallu_make(rule: *const u8, rule_len: usize, sheet: *mut u8, sheet_len: usize) -> Made;
+    fn pachallu_fresh(sheet: *const u8, sheet_len: usize) -> Start;
+    fn pachallu_event(
+        sheet: *const u8,
+        sheet_len: usize,
+        state: u8,
+        held: usize,
+        event: u8,
+        memory: *mut u8,
+        memory_len: usize,
+        output: *mut u8,
+        output_len: usize,
+    ) -> Answer;
+}
+
+#[inline(always)]
+pub fn make(rule: &[u8], sheet: &mut [u8]) -> Made {
+    unsafe { pachallu_make(rule.as_ptr(), rule.len(), sheet.as_mut_ptr(), sheet.len()) }
+}
+
+#[inline(always)]
+pub fn fresh(sheet: &[u8]) -> Start {
+    unsafe { pachallu_fresh(sheet.as_ptr(), sheet.len()) }
+}
+
+#[inline(always)]
+pub fn event(sheet: &[u8], state: u8, held: usize, event: u8, memory: &mut [u8], output: &mut [u8]) -> Answer {
+    unsafe {
+        pachallu_event(
+            sheet.as_ptr(),
+            sheet.len(),
+            state,
+            held,
+            event,
+            memory.as_mut_ptr(),
+            memory.len(),
+            output.as_mut_ptr(),
+            output.len(),
+        )
+    }
+}

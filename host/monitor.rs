@@ -1,0 +1,443 @@
+//! A second monitor, written from the paper of exact rules alone, to be compared with the proved one.
+//!
+//! It shares nothing with the proved library and goes other ways where it can: a rule is rows of next states and
+//! lists of state numbers, reach is a worklist over the graph of moves, a set is a list or a row of marks.
+//! Nothing here is fast on purpose; everything is meant to be read beside the paper.
+
+/// The limits of a rule: states, events, pairs, bytes of the note, bytes of the file.
+pub const STATES: usize = 64;
+pub const EVENTS: usize = 32;
+pub const PAIRS: usize = 8;
+pub const NOTE: usize = 1024;
+pub const FILE: usize = 3212;
+/// The trailer of a rule file and that of a sheet.
+const TRAILER: usize = 12;
+const FOOT: usize = 6;
+
+/// Why a call was refused: the number and its two places.
+#[derive(Clone, Copy, PartialEq, Eq, Debug)]
+pub struct Refusal {
+    pub no: u8,
+    pub a: u8,
+    pub b: u8,
+}
+
+fn refuse<T>(no: u8) -> Result<T, Refusal> {
+    refuse_at(no, 0, 0)
+}
+
+fn refuse_at<T>(no: u8, a: usize, b: usize) -> Result<T, Refusal> {
+    Err(Refusal { no, a: a as u8, b: b as u8 })
+}
+
+/// An accepting pair: the states of R and of P, each list rising and without repeats.
+#[derive(Clone, PartialEq, Eq, Debug, Default)]
+pub struct Pair {
+    pub r: Vec<usize>,
+    pub p: Vec<usize>,
+}
+
+/// A rule as drawn. `rows[s][e]` is the state after event e in state s; `pairs` are the used pairs.
+#[derive(Clone, PartialEq, Eq, Debug)]
+pub struct Rule {
+    pub class: usize,
+    pub states: usize,
+    pub events: usize,
+    pub initial: usize,
+    pub note: Vec<u8>,
+    pub rows: Vec<Vec<usize>>,
+    pub pairs: Vec<Pair>,
+}
+
+/// What a move does, from the least to the greatest.
+#[derive(Clone, Copy, PartialEq, Eq, PartialOrd, Ord, Debug)]
+pub enum Operation {
+    Halt,
+    Store,
+    Dump,
+}
+
+impl Operation {
+    pub fn name(self) -> &'static str {
+        match self {
+            Operation::Halt => "halt",
+            Operation::Store => "store",
+            Operation::Dump => "dump",
+        }
+    }
+    pub fn number(self) -> u8 {
+        match self {
+            Operation::Halt => 0,
+            Operation::Store => 1,
+            Operation::Dump => 2,
+        }
+    }
+}
+
+// ---------------------------------------------------------------------------------------------- meaning
+
+/// For every state, the states that some events lead to from it. No events count too.
+pub fn reach(rule: &Rule) -> Vec<Vec<bool>> {
+    let mut neighbours: Vec<Vec<usize>> = Vec::new();
+    for row in &rule.rows {
+        let mut seen = vec![false; rule.states];
+        let mut list = Vec::new();
+        for &t in row {
+            if !seen[t] {
+                seen[t] = true;
+                list.push(t);
+            }
+        }
+        neighbours.push(list);
+    }
+    (0..rule.states).map(|q| spread(&neighbours, q)).collect()
+}
+
+fn spread(neighbours: &[Vec<usize>], from: usize) -> Vec<bool> {
+    let mut met = vec![false; neighbours.len()];
+    let mut todo = vec![from];
+    met[from] = true;
+    while let Some(s) = todo.pop() {
+        for &t in &neighbours[s] {
+            if !met[t] {
+                met[t] = true;
+                todo.push(t);
+            }
+        }
+    }
+    met
+}
+
+/// The value of one pair for a move into t.
+fn value(pair: &Pair, reached_from_t: &[bool], t: usize) -> Operation {
+    let p_side = if pair.p.contains(&t) { Operation::Dump } else { Operation::Halt };
+    let r_side = if pair.r.contains(&t) {
+        Operation::Dump
+    } else if pair.r.iter().any(|&s| reached_from_t[s]) {
+        Operation::Store
+    } else {
+        Operation::Halt
+    };
+    p_side.max(r_side)
+}
+
+/// The operation of every move into t, for each t.
+pub fn operations(rule: &Rule) -> Vec<Operation> {
+    let reached = reach(rule);
+    (0..rule.states).map(|t| rule.pairs.iter().map(|pair| value(pair, &reached[t], t)).min().unwrap_or(Operation::Dump)).collect()
+}
+
+/// The lowest pair by which a state is stopping.
+fn stopping_by(rule: &Rule, reached_from_s: &[bool], s: usize) -> Option<usize> {
+    rule.pairs.iter().position(|pair| !pair.p.contains(&s) && !pair.r.iter().any(|&t| reached_from_s[t]))
+}
+
+/// The stopping states, rising.
+pub fn stopping(rule: &Rule) -> Vec<usize> {
+    let reached = reach(rule);
+    (0..rule.states).filter(|&s| stopping_by(rule, &reached[s], s).is_some()).collect()
+}
+
+// ---------------------------------------------------------------------------------------------- checks
+
+/// Refusals 2 and 3, on the numbers of the trailer.
+fn check_shape(class: usize, states: usize, events: usize, pairs: usize, initial: usize) -> Result<(), Refusal> {
+    if class < 1 || class > 4 {
+        return refuse(2);
+    }
+    if states < 1 || states > STATES || events < 1 || events > EVENTS || pairs < 1 || pairs > PAIRS || initial >= states {
+        return refuse(3);
+    }
+    if class != 3 && pairs != 1 {
+        return refuse(3);
+    }
+    Ok(())
+}
+
+/// Is the move from s to t against the class, for this pair?
+fn forbidden(class: usize, pair: &Pair, s: usize, t: usize) -> bool {
+    let enters_p = !pair.p.contains(&s) && pair.p.contains(&t);
+    let leaves_r = pair.r.contains(&s) && !pair.r.contains(&t);
+    match class {
+        1 => enters_p,
+        2 => leaves_r,
+        3 => enters_p || leaves_r,
+        _ => false,
+    }
+}
+
+/// Refusals 5 to 10, in order.
+fn check_drawing(rule: &Rule) -> Result<(), Refusal> {
+    for (s, row) in rule.rows.iter().enumerate() {
+        for (e, &t) in row.iter().enumerate() {
+            if t >= rule.states {
+                return refuse_at(5, s, e);
+            }
+        }
+    }
+    for (i, pair) in rule.pairs.iter().enumerate() {
+        let past = |set: &[usize]| set.iter().any(|&s| s >= rule.states);
+        if past(&pair.r) {
+            return refuse_at(6, i, 0);
+        }
+        if past(&pair.p) {
+            return refuse_at(6, i, 1);
+        }
+    }
+    let has_r = rule.pairs.iter().any(|pair| !pair.r.is_empty());
+    let has_p = rule.pairs.iter().any(|pair| !pair.p.is_empty());
+    if (rule.class == 1 && has_r) || ((rule.class == 2 || rule.class == 4) && has_p) {
+        return refuse(7);
+    }
+    for (s, row) in rule.rows.iter().enumerate() {
+        for (e, &t) in row.iter().enumerate() {
+            if rule.pairs.iter().any(|pair| forbidden(rule.class, pair, s, t)) {
+                return refuse_at(8, s, e);
+            }
+        }
+    }
+    if let Some(i) = stopping_by(rule, &reach(rule)[rule.initial], rule.initial) {
+        return refuse_at(9, i, 0);
+    }
+    if let Some(i) = rule.pairs.iter().position(|pair| pair.r.is_empty() && pair.p.is_empty()) {
+        return refuse_at(10, i, 0);
+    }
+    Ok(())
+}
+
+/// All that writing asks of a rule: 2, 3, 4 for the note, 5 to 10.
+pub fn check(rule: &Rule) -> Result<(), Refusal> {
+    check_shape(rule.class, rule.states, rule.events, rule.pairs.len(), rule.initial)?;
+    if rule.note.len() > NOTE {
+        return refuse(4);
+    }
+    check_drawing(rule)
+}
+
+// ---------------------------------------------------------------------------------------------- rule files
+
+fn two_bytes(bytes: &[u8]) -> usize {
+    bytes[0] as usize + 256 * bytes[1] as usize
+}
+
+/// The states of a set of eight bytes: state s is bit s % 8 of byte s / 8.
+fn read_set(bytes: &[u8]) -> Vec<usize> {
+    let mut set = Vec::new();
+    for (i, &byte) in bytes.iter().enumerate() {
+        let mut rest = byte;
+        for j in 0..8 {
+            if rest % 2 == 1 {
+                set.push(8 * i + j);
+            }
+            rest /= 2;
+        }
+    }
+    set
+}
+
+fn write_set(set: &[usize], out: &mut Vec<u8>) {
+    for i in 0..8 {
+        let mut byte = 0;
+        for j in (0..8).rev() {
+            byte = 2 * byte + set.contains(&(8 * i + j)) as u8;
+        }
+        out.push(byte);
+    }
+}
+
+/// Reads a rule file: refusals 1 to 10.
+pub fn read(file: &[u8]) -> Result<Rule, Refusal> {
+    if file.len() < TRAILER || file.len() > FILE {
+        return refuse(1);
+    }
+    let trailer = &file[file.len() - TRAILER..];
+    if trailer[10] != 72 || trailer[11] != 82 {
+        return refuse(1);
+    }
+    let number = |i: usize| trailer[i] as usize;
+    let (class, states, events, pairs, initial) = (number(0), number(1), number(2), number(3), number(4));
+    check_shape(class, states, events, pairs, initial)?;
+    if trailer[5] != 0 {
+        return refuse(3);
+    }
+    let to_pairs = TRAILER + 16 * pairs;
+    let to_table = to_pairs + states * events;
+    if two_bytes(&trailer[6..8]) != to_table || two_bytes(&trailer[8..10]) != to_pairs || file.len() < to_table {
+        return refuse(4);
+    }
+    let (note, rest) = file.split_at(file.len() - to_table);
+    if note.len() > NOTE {
+        return refuse(4);
+    }
+    let (table, rest) = rest.split_at(states * events);
+    let rule = Rule {
+        class,
+        states,
+        events,
+        initial,
+        note: note.to_vec(),
+        rows: table.chunks(events).map(|row| row.iter().map(|&t| t as usize).collect()).collect(),
+        pairs: rest[..16 * pairs].chunks(16).map(|pair| Pair { r: read_set(&pair[..8]), p: read_set(&pair[8..]) }).collect(),
+    };
+    check_drawing(&rule)?;
+    Ok(rule)
+}
+
+/// The bytes that stand for a rule, whether it is sound or not: note, table, pairs, trailer.
+pub fn layout(rule: &Rule) -> Vec<u8> {
+    let mut out = rule.note.clone();
+    for row in &rule.rows {
+        out.extend(row.iter().map(|&t| t as u8));
+    }
+    for pair in &rule.pairs {
+        write_set(&pair.r, &mut out);
+        write_set(&pair.p, &mut out);
+    }
+    let to_pairs = TRAILER + 16 * rule.pairs.len();
+    let to_table = to_pairs + rule.states * rule.events;
+    for number in [rule.class, rule.states, rule.events, rule.pairs.len(), rule.initial, 0] {
+        out.push(number as u8);
+    }
+    for number in [to_table, to_pairs] {
+        out.push((number % 256) as u8);
+        out.push((number / 256) as u8);
+    }
+    out.extend([72, 82]);
+    out
+}
+
+/// Puts bytes at the front of the output, or refuses with 16.
+fn put(bytes: &[u8], output: &mut [u8]) -> Result<usize, Refusal> {
+    if bytes.len() > output.len() {
+        return refuse(16);
+    }
+    output[..bytes.len()].copy_from_slice(bytes);
+    Ok(bytes.len())
+}
+
+/// Writes a rule file at the front of the output: refusals 2, 3, 4, 5 to 10, 16.
+pub fn write(rule: &Rule, output: &mut [u8]) -> Result<usize, Refusal> {
+    check(rule)?;
+    put(&layout(rule), output)
+}
+
+// ---------------------------------------------------------------------------------------------- sheets
+
+/// The sheet of a sound rule.
+pub fn sheet(rule: &Rule) -> Vec<u8> {
+    let operation = operations(rule);
+    let mut out = Vec::new();
+    for row in &rule.rows {
+        out.extend(row.iter().map(|&t| t as u8 + 64 * operation[t].number()));
+    }
+    let distance = rule.states * rule.events + FOOT;
+    out.extend([rule.states as u8, rule.events as u8, rule.initial as u8, 77]);
+    out.extend([(distance % 256) as u8, (distance / 256) as u8]);
+    out
+}
+
+/// Makes a sheet from a rule file at the front of the output: refusals 1 to 10, 16.
+pub fn make(file: &[u8], output: &mut [u8]) -> Result<usize, Refusal> {
+    let rule = read(file)?;
+    put(&sheet(&rule), output)
+}
+
+/// A sheet whose foot was found right. The cells themselves are looked at when they are used.
+pub struct Opened<'a> {
+    cells: &'a [u8],
+    pub states: usize,
+    pub events: usize,
+    pub initial: usize,
+}
+
+/// Opens a sheet: refusal 11.
+pub fn open(sheet: &[u8]) -> Result<Opened<'_>, Refusal> {
+    if sheet.len() < FOOT {
+        return refuse(11);
+    }
+    let (cells, foot) = sheet.split_at(sheet.len() - FOOT);
+    let (states, events, initial) = (foot[0] as usize, foot[1] as usize, foot[2] as usize);
+    let in_range = states >= 1 && states <= STATES && events >= 1 && events <= EVENTS && initial < states;
+    let size = states * events + FOOT;
+    if foot[3] != 77 || !in_range || two_bytes(&foot[4..6]) != size || sheet.len() != size {
+        return refuse(11);
+    }
+    Ok(Opened { cells, states, events, initial })
+}
+
+/// Where a run stands.
+#[derive(Clone, Copy, PartialEq, Eq, Debug)]
+pub struct Run {
+    pub state: u8,
+    pub held: usize,
+}
+
+/// A taken event: what was done, where the run stands now, how many events were released.
+#[derive(Clone, Copy, PartialEq, Eq, Debug)]
+pub struct Taken {
+    pub operation: Operation,
+    pub run: Run,
+    pub released: usize,
+}
+
+/// A fresh run: refusal 11.
+pub fn fresh(sheet: &[u8]) -> Result<Run, Refusal> {
+    Ok(Run { state: open(sheet)?.initial as u8, held: 0 })
+}
+
+/// One event: refusals 11 to 16.
+pub fn event(sheet: &[u8], run: Run, event: u8, memory: &mut [u8], output: &mut [u8]) -> Result<Taken, Refusal> {
+    let opened = open(sheet)?;
+    let (s, e) = (run.state as usize, event as usize);
+    if s >= opened.states || run.held > memory.len() {
+        return refuse(12);
+    }
+    if e >= opened.events {
+        return refuse(13);
+    }
+    let row = &opened.cells[s * opened.events..][..opened.events];
+    let (next, operation) = (row[e] % 64, row[e] / 64);
+    if next as usize >= opened.states {
+        return refuse_at(14, s, e);
+    }
+    match operation {
+        0 => Ok(Taken { operation: Operation::Halt, run: Run { state: next, held: run.held }, released: 0 }),
+        1 => {
+            if run.held == memory.len() {
+                return refuse(15);
+            }
+            memory[run.held] = event;
+            Ok(Taken { operation: Operation::Store, run: Run { state: next, held: run.held + 1 }, released: 0 })
+        }
+        2 => {
+            let mut release = memory[..run.held].to_vec();
+            release.push(event);
+            let released = put(&release, output)?;
+            Ok(Taken { operation: Operation::Dump, run: Run { state: next, held: 0 }, released })
+        }
+        _ => refuse_at(14, s, e),
+    }
+}
+
+// ---------------------------------------------------------------------------------------------- the printed monitor
+
+/// What the program `table` prints for a rule file.
+pub fn printed(file: &[u8]) -> String {
+    let rule = match read(file) {
+        Ok(rule) => rule,
+        Err(refusal) => return format!("refused {} {} {}\n", refusal.no, refusal.a, refusal.b),
+    };
+    let mut lines = vec![format!("rule {} {} {} {} {}", rule.class, rule.states, rule.events, rule.pairs.len(), rule.initial)];
+    let operation = operations(&rule);
+    for (s, row) in rule.rows.iter().enumerate() {
+        for (e, &t) in row.iter().enumerate() {
+            lines.push(format!("{} {} {} {}", s, e, t, operation[t].name()));
+        }
+    }
+    let mut last: Vec<String> = stopping(&rule).iter().map(|s| s.to_string()).collect();
+    if last.is_empty() {
+        last.push("-".to_string());
+    }
+    lines.push(format!("stop {}", last.join(" ")));
+    lines.join("\n") + "\n"
+}

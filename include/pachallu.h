@@ -1,0 +1,128 @@
+/* pachallu.h: monitors for drawn rules.
+ *
+ * A rule is drawn as states and moves and kept in a rule file. pachallu_make turns the file into a sheet, once.
+ * pachallu_fresh begins a run on a sheet. pachallu_event takes one event at a time and says what became of it:
+ *
+ *     store   the event is held back; it stands in the memory, behind those already held
+ *     dump    the held events and then this one are released: they stand in the output, from its front
+ *     halt    no continuation can make the events acceptable any more: nothing is released, the event is not held, what was
+ *             held stays held; every later event of the rule is answered halt too
+ *
+ * What has been released is always the longest beginning of the taken events that the rule accepts.
+ *
+ *     uint8_t sheet[PACHALLU_SHEET_MAX], memory[100], output[101];
+ *     pachallu_made made = pachallu_make(rule, rule_len, sheet, sizeof sheet);
+ *     if (made.refusal) ...
+ *     pachallu_start start = pachallu_fresh(sheet, made.written);
+ *     uint8_t state = start.state;
+ *     size_t held = start.held;
+ *     for each event:
+ *         pachallu_answer a = pachallu_event(sheet, made.written, state, held, event, memory, sizeof memory, output, sizeof output);
+ *         if (a.refusal) ...                            the event was not taken; nothing has changed
+ *         else use output[0] to output[a.released - 1]  nothing if a.released is 0
+ *         state = a.state;
+ *         held = a.held;
+ *
+ * THE RUN STATE is the two numbers `state` and `held`, and the first `held` bytes of the memory. The library keeps nothing
+ * between calls: carry the two numbers from each answer into the next call, with the same sheet and the same memory, and leave
+ * the held bytes alone. The memory's other bytes are yours between calls. Several runs may share one sheet; each has its own
+ * state, held and memory. The calls are safe in several threads at once as long as no buffer that is written is shared.
+ *
+ * BUFFERS belong to the caller; the library keeps no pointer after a call, allocates nothing and frees nothing. Each buffer is a
+ * pointer and its length in bytes.
+ *   - The buffers of one call must not overlap, neither in part nor as a whole. (Several calls may use the same buffer.)
+ *   - A pointer must not be NULL, even with length 0: pass any valid pointer then. A length of 0 is fine everywhere, and is
+ *     answered by a refusal where bytes were needed.
+ *   - `const` buffers are only read.
+ *   - Nothing outside of what an answer names is written: pachallu_make writes sheet[0] to sheet[written - 1]; a store writes the
+ *     one byte memory[held] (held as it was given); a dump writes output[0] to output[released - 1]; a halt writes nothing.
+ *
+ * A REFUSAL (`refusal` not 0) changes no byte of any buffer. A refused make has written 0; a refused start has state 0 and
+ * held 0; a refused event returns the state and held that it was given, with operation 0 and released 0: look at `refusal`
+ * before `operation`. A refused event is not taken: the same or another one may be offered next, for instance with a longer
+ * output. `a` and `b` are the two places of the table below, 0 where none is named.
+ *
+ *     no.  given when                                                                        a, b
+ *      1   rule file under 12 or over 3,212 bytes, or its last two bytes are not 72, 82
+ *      2   class not 1 to 4
+ *      3   states, events, pairs or initial state out of range, byte 5 of the trailer not
+ *          0, or several pairs in class 1, 2 or 4
+ *      4   a distance is wrong, the file is too short for its table, or the note is over
+ *          1,024 bytes
+ *      5   a table entry is no state                                                         state, event: first such cell
+ *      6   a pair names a state that is not there                                            pair; 0 if R does, 1 if only P
+ *      7   class 1 with R not empty, class 2 or 4 with P not empty
+ *      8   a move that the class forbids                                                     state, event: first such cell
+ *      9   the initial state is stopping: nothing could ever be accepted                     pair by which it is
+ *     10   a pair with R and P both empty                                                    pair
+ *     11   this is no sheet: length, mark, sizes or initial state are wrong
+ *     12   this is no run state of the sheet: state too great, or more held than the memory
+ *          is long
+ *     13   the event is not one of the rule's
+ *     14   the sheet's cell is spoiled                                                       state, event
+ *     15   to be stored, but the memory is full
+ *     16   the output has too little room
+ *
+ * pachallu_make gives 1 to 10, then 16; pachallu_fresh gives 11; pachallu_event gives 11 to 16; always the first that holds.
+ *
+ * The library is x86-64 code for Linux. Usable from C99 and C++.
+ */
+#ifndef PACHALLU_H
+#define PACHALLU_H
+
+#include <stddef.h>
+#include <stdint.h>
+
+#ifdef __cplusplus
+extern "C" {
+#endif
+
+/* The longest rule file, the longest sheet, and the limits of a rule: states, events, accepting pairs. */
+#define PACHALLU_RULE_MAX 3212
+#define PACHALLU_SHEET_MAX 2054
+#define PACHALLU_STATES_MAX 64
+#define PACHALLU_EVENTS_MAX 32
+#define PACHALLU_PAIRS_MAX 8
+
+/* pachallu_answer.operation */
+#define PACHALLU_HALT 0
+#define PACHALLU_STORE 1
+#define PACHALLU_DUMP 2
+
+typedef struct {
+    uint8_t refusal; /* 0: done */
+    uint8_t a, b;    /* places of a refusal */
+    size_t written;  /* bytes at the front of the sheet: states * events + 6 */
+} pachallu_made;
+
+typedef struct {
+    uint8_t refusal; /* 0: done */
+    uint8_t a, b;    /* always 0: refusal 11 names no place */
+    uint8_t state;   /* the initial state */
+    size_t held;     /* 0 */
+} pachallu_start;
+
+typedef struct {
+    uint8_t refusal;   /* 0: taken */
+    uint8_t a, b;      /* places of a refusal */
+    uint8_t operation; /* PACHALLU_HALT, PACHALLU_STORE or PACHALLU_DUMP */
+    uint8_t state;     /* the run state after the event, for the next call */
+    size_t held;
+    size_t released;   /* bytes at the front of the output: held as given + 1 for a dump, else 0 */
+} pachallu_answer;
+
+/* Makes the sheet of a rule file. PACHALLU_SHEET_MAX bytes of room are always enough. */
+pachallu_made pachallu_make(const uint8_t *rule, size_t rule_len, uint8_t *sheet, size_t sheet_len);
+
+/* Begins a run. sheet_len is the sheet's exact length, `written` of pachallu_make. */
+pachallu_start pachallu_fresh(const uint8_t *sheet, size_t sheet_len);
+
+/* Takes one event. An output of memory_len + 1 bytes is always enough. */
+pachallu_answer pachallu_event(const uint8_t *sheet, size_t sheet_len, uint8_t state, size_t held, uint8_t event,
+                               uint8_t *memory, size_t memory_len, uint8_t *output, size_t output_len);
+
+#ifdef __cplusplus
+}
+#endif
+
+#endif
