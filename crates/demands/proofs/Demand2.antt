@@ -1,5 +1,7 @@
 -- DEMAND 2. For each rule of the four classes the monitor does, in every state and at every code, what the published construction says.
 -- A rule read and written again is byte for byte the same file; a rule written and read is the same rule.
+--
+-- `demand-2`: of every sheet that is made. `every-rule`: which rules have their sheet made. `round-trips`: of rule files.
 -- Assumes nothing.
 use Prim.Native.Nat.{ℕ, _+_, _*_, _/_, _%_, _≤_, _<_}
 use native.Mathlib.Omega.{arith}
@@ -15,6 +17,8 @@ use Rattle.rule.specs.Stopping.{stopping}
 use Rattle.rule.specs.Classes.{OfClass}
 use Rattle.rule.specs.Constructions.{PublishedMove, PublishedStop}
 use Rattle.rule.specs.declared.Operation.{Operation}
+use Rattle.rule.specs.Refusals.{toldOf}
+use Rattle.rule.specs.declared.Refusal.{Refusal}
 use Rattle.rule.specs.declared.Rule.{Rule}
 use Rattle.rule.specs.declared.Verdict.the-variants.{Sound}
 use Rattle.rule.proofs.ClassLaws.{of-class}
@@ -25,17 +29,20 @@ use Rattle.rulefile.specs.Reading.{verdictOn, readingOf}
 use Rattle.rulefile.specs.Writing.{verdictOf, WritePromise, Held}
 use Rattle.rulefile.specs.declared.Reading.{Reading}
 use Rattle.rulefile.specs.declared.Written.{Written}
-use Rattle.rulefile.specs.declared.Written.the-variants.{Done}
+use Rattle.rulefile.specs.declared.Written.the-variants.{Done, Refused}
+use Rattle.rulefile.specs.Given.{Row, NoneBefore, NoRow}
 use Rattle.rulefile.proofs.AnswerLaws.{put-done}
 use Rattle.rulefile.proofs.PartsLaws.{sound-file}
 use Rattle.rulefile.proofs.WellLaws.{file-range, file-pairs, file-well}
 use Rattle.rulefile.proofs.RoundTrips.{read-written, written-read, same-rule}
-use Rattle.sheet.specs.Making.{sheetOf}
+use Rattle.sheet.specs.Given.{making}
+use Rattle.sheet.specs.Making.{sheetOf, MakePromise}
 use Rattle.sheet.specs.Opening.{openedOf}
 use Rattle.sheet.specs.declared.Head.{Head}
 use Rattle.sheet.specs.declared.Opened.the-variants.{Sheet}
 use Rattle.sheet.proofs.MakingLaws.{sheet-opens, cell-next, cell-operation}
 use Rattle.sheet.proofs.FoundLaws.{sound-formed}
+use Rattle.sheet.proofs.GivenLaws.{make-gives, make-done}
 use Rattle.monitor.specs.Event.{operationOf}
 use Rattle.history.proofs.HistoryLaws.{mark-back}
 use Rattle.demands.specs.Made.{Made}
@@ -51,6 +58,13 @@ pub record Demand2 (d : Drawing) (sheet : List ℕ) : Type 0 where
       → PublishedMove d q e (d .shape .class) a t ↔ ((a ≡ operationOf (getD sheet (q * events d + e) 0 / 64)) × (t ≡ getD sheet (q * events d + e) 0 % 64))
   -- the stopping states are the published ones
   pub stops : (q : ℕ) → q < states d → PublishedStop d q (d .shape .class) ↔ (stopping d q ≡ true)
+
+-- every rule that the paper's table does not refuse has its sheet made, where there is room, and no other has; a refusal is that of the first row that holds
+pub record EveryRule : Type 0 where
+  pub made : (f out : List ℕ) (w : Written) (out′ : List ℕ) → MakePromise f out w out′
+      → (n : ℕ) → (w ≡ Done n) ↔ (NoRow (making f (length out)) × (n ≡ length (sheetOf (drawingIn f))))
+  pub refused : (f out : List ℕ) (w : Written) (out′ : List ℕ) → MakePromise f out w out′
+      → (x : Refusal) → (w ≡ Refused x) ↔ (NoneBefore (toldOf x .number) (making f (length out)) × Row (making f (length out)) x)
 
 -- and its files come back as they were
 pub record RoundTrips : Type 0 where
@@ -76,6 +90,9 @@ demand-2 file sheet made =
       cells = λ q c h k a t. rw (e, cell-next F q c h k, cell-operation F q c h k, mark-back) (published-moves d (file-well file S) q c h k a t C);
       stops = λ q h. published-stops d (file-well file S) q h C;
     }
+
+pub every-rule : EveryRule
+every-rule = record { made = λ f out w out′ p. make-done p; refused = λ f out w out′ p. make-gives p }
 
 pub round-trips : RoundTrips
 round-trips =

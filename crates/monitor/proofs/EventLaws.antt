@@ -1,13 +1,13 @@
 -- Laws of one event: what it comes to, from the tests on the way, and what it leaves.
 -- Assumes nothing.
-use Prim.Native.Nat.{ℕ, suc, _+_, _*_, _/_, _%_, _≤_, _<_}
+use Prim.Native.Nat.{ℕ, _+_, _/_, _%_, _≤_, _<_}
 use native.Mathlib.Omega.{arith}
 use native.Mathlib.Numerals.{add-one}
-use mathlib.Core.Path.{_≡_, refl, sym, ap, _∙_}
+use mathlib.Core.Path.{_≡_, refl, sym, _∙_}
 use mathlib.Core.Bool.{Bool, true, false, cond, _||_, or-true}
-use mathlib.Core.List.{List, [], _∷_, _++_}
-use lib.Dec.{leb, ltb, eqb}
-use lib.ListN.{length, getD, take, drop, set}
+use mathlib.Core.List.{List, _++_}
+use lib.Dec.{leb, ltb}
+use lib.ListN.{length, take, drop, set}
 use lib.Seq.{length-take-le}
 use borrow.Author.Tests.{le-ltb, lt-ltb, le-leb, lt-leb, eq-eqb, ne-eqb, ltb-false}
 use Rattle.octets.specs.Copies.{copied}
@@ -24,8 +24,8 @@ use Rattle.sheet.specs.Opening.{openedOf}
 use Rattle.sheet.specs.declared.Head.{Head}
 use Rattle.sheet.specs.declared.Opened.{Opened}
 use Rattle.sheet.specs.declared.Opened.the-variants.{Sheet, Refused as Shut}
-use Rattle.monitor.specs.Event.{operationOf, cellTurn, lookOf, roomTurn, outputIn, TurnPromise, StepPromise, EventPromise}
-use Rattle.monitor.specs.Given.{cellRead, RunFits, CodeFits, CellFits, WrongRun, state-past, held-past, WrongCode, WrongCell, operation-3, next-past, Reads}
+use Rattle.monitor.specs.Event.{cellTurn, lookOf, roomTurn, outputIn, TurnPromise, StorePromise, DumpPromise, StepPromise, EventPromise}
+use Rattle.monitor.specs.Given.{cellRead, CodeFits, CellFits, WrongRun, state-past, held-past, WrongCode, WrongCell, operation-3, next-past, Reads}
 use Rattle.monitor.specs.declared.Run.{Run}
 use Rattle.monitor.specs.declared.Turn.{Turn}
 use Rattle.monitor.specs.declared.Turn.the-variants.{Move, Refused}
@@ -87,17 +87,13 @@ move-held h sheet run e room t p q = by _ (leb (h .states) (run .state .0)) (ltb
 
 -- what store does
 module _ (next : StateNo) (run : Run) (e : EventNo) (memory : List ℕ) where
-  abbrev pub StorePromise : Answer → List ℕ → Type 0
-  StorePromise r memory′ =
-      TurnPromise (roomTurn (Move Store next) (run .held) (length memory) 0) run e memory [] r memory′ []
-
-  pub store-full : length memory ≤ run .held → StorePromise (Declined Memory) memory
+  pub store-full : length memory ≤ run .held → StorePromise next run e memory (Declined Memory) memory
   store-full a =
       let t = le-leb _ _ a in
       record { answer = rw t; memory-after = rw t; output-after = rw t }
 
   pub stored : run .held < length memory
-      → StorePromise (Taken Store (record { state = next; held = run .held + 1 }) 0) (set memory (run .held) (e .0))
+      → StorePromise next run e memory (Taken Store (record { state = next; held = run .held + 1 }) 0) (set memory (run .held) (e .0))
   stored a =
       let t = lt-leb _ _ a in
       record { answer = rw t; memory-after = rw t; output-after = rw t }
@@ -107,17 +103,13 @@ pub taken-long : (n : ℕ) (l : List ℕ) → n ≤ length l → n ≡ length (t
 taken-long n l h = sym (length-take-le n l h)
 
 module _ (next : StateNo) (run : Run) (e : EventNo) (memory output : List ℕ) where
-  abbrev pub DumpPromise : Answer → List ℕ → Type 0
-  DumpPromise r output′ =
-      TurnPromise (roomTurn (Move Dump next) (run .held) 0 (length output)) run e memory output r memory output′
-
-  pub dump-full : length output ≤ run .held → DumpPromise (Declined Room) output
+  pub dump-full : length output ≤ run .held → DumpPromise next run e memory output (Declined Room) output
   dump-full a =
       let t = le-leb _ _ a in
       record { answer = rw t; memory-after = rw t; output-after = rw t }
 
   pub dumped : {to : List ℕ} → run .held ≤ length memory → run .held < length output → to ≡ copied (take (run .held) memory) output
-      → DumpPromise (Taken Dump (record { state = next; held = 0 }) (run .held + 1)) (set to (run .held) (e .0))
+      → DumpPromise next run e memory output (Taken Dump (record { state = next; held = 0 }) (run .held + 1)) (set to (run .held) (e .0))
   dumped {to} a b d =
       let t = lt-leb _ _ b in
       let n : length (take (run .held) memory) ≡ run .held = length-take-le _ _ a in

@@ -2,7 +2,7 @@
 -- Assumes nothing.
 use Prim.Native.Nat.{ℕ}
 use native.Mathlib.Omega.{arith}
-use mathlib.Core.Path.{_≡_, refl, sym, _∙_}
+use mathlib.Core.Path.{_≡_, refl}
 use mathlib.Core.List.{List}
 use mathlib.Core.Logic.{_↔_}
 use Rattle.rule.specs.Drawing.{stateNo}
@@ -16,7 +16,6 @@ use Rattle.sheet.specs.declared.Opened.the-variants.{Sheet, Refused as Shut}
 use Rattle.sheet.proofs.OpeningLaws.{refused-when}
 use Rattle.monitor.specs.Fresh.{freshRun, startBy, startOf}
 use Rattle.monitor.specs.declared.Run.{Run}
-use Rattle.monitor.specs.declared.Start.{Start}
 
 module _ (sheet : List ℕ) (res : Opened) (open-is : res ≡ openedOf sheet) (run : Run) where
   pub fresh-shut : res ≡ Shut → run ≡ freshRun (stateNo 0) → record { verdict = Refused NoSheet; run = run } ≡ startOf sheet

@@ -2,11 +2,12 @@
 -- Assumes nothing.
 use Prim.Native.Nat.{ℕ, _+_, _*_, _/_, _%_}
 use mathlib.Core.Path.{_≡_}
-use mathlib.Core.Bool.{Bool, cond, _||_}
+use mathlib.Core.Bool.{cond, _||_}
 use mathlib.Core.List.{List, [], _∷_, _++_}
 use lib.ListN.{length, getD, take, drop, set}
 use lib.Dec.{leb, ltb, eqb}
 use Rattle.rule.specs.Drawing.{stateNo}
+use Rattle.rule.specs.declared.StateNo.{StateNo}
 use Rattle.rule.specs.declared.EventNo.{EventNo}
 use Rattle.rule.specs.declared.Operation.{Operation}
 use Rattle.rule.specs.declared.Operation.the-variants.{Halt, Store, Dump}
@@ -84,6 +85,15 @@ pub record TurnPromise (turn : Turn) (run : Run) (e : EventNo) (memory output : 
   pub answer : r ≡ answerIn turn (run .held)
   pub memory-after : memory′ ≡ memoryIn turn (run .held) (e .0) memory
   pub output-after : output′ ≡ outputIn turn (run .held) (e .0) memory output
+
+-- the promise of a store and of a dump into a state
+abbrev pub StorePromise : (next : StateNo) → Run → EventNo → (memory : List ℕ) → Answer → (memory′ : List ℕ) → Type 0
+StorePromise next run e memory r memory′ =
+    TurnPromise (roomTurn (Move Store next) (run .held) (length memory) 0) run e memory [] r memory′ []
+
+abbrev pub DumpPromise : (next : StateNo) → Run → EventNo → (memory output : List ℕ) → Answer → (output′ : List ℕ) → Type 0
+DumpPromise next run e memory output r output′ =
+    TurnPromise (roomTurn (Move Dump next) (run .held) 0 (length output)) run e memory output r memory output′
 
 -- the promise of one event on an opened sheet
 abbrev pub StepPromise : Head → (sheet : List ℕ) → Run → EventNo → (memory output : List ℕ) → Answer → (memory′ output′ : List ℕ) → Type 0

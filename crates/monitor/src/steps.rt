@@ -1,13 +1,10 @@
 // One event on an opened sheet: what its cell says, and what its operation does.
 ghost use mathlib.Core.Path.{_≡_};
-ghost use mathlib.Core.List.{[]};
 ghost use Prim.Native.Nat.{_≤_};
 ghost use lib.ListN.{length};
-ghost use Rattle.rule.specs.declared.Operation.the-variants.{Store, Dump};
 ghost use Rattle.sheet.specs.Opening.{openedOf};
 ghost use Rattle.sheet.specs.declared.Opened.the-variants.{Sheet};
-ghost use Rattle.monitor.specs.Event.{lookOf, roomTurn, TurnPromise, StepPromise};
-ghost use Rattle.monitor.specs.declared.Turn.the-variants.{Move};
+ghost use Rattle.monitor.specs.Event.{lookOf, StorePromise, DumpPromise, StepPromise};
 use crate::Answer;
 use crate::Run;
 use crate::Turn;
@@ -53,7 +50,7 @@ pub(crate) fn look(sheet: &[u8], head: Head, run: Run, event: EventNo, room: usi
 
 // Store: the event joins the held ones, if the memory has a place for it.
 fn store(next: StateNo, run: Run, event: EventNo, memory: &mut [u8]) -> Answer
-    ensures { λ r. ⌜ TurnPromise (roomTurn (Move Store next) (run .held) (length (now (memory .entry))) 0) run event (now (memory .entry)) [] r (now (memory .exit)) [] ⌝ }
+    ensures { λ r. ⌜ StorePromise next run event (now (memory .entry)) r (now (memory .exit)) ⌝ }
 {
     let held = run.held;
     if memory.len() <= held {
@@ -73,7 +70,7 @@ fn store(next: StateNo, run: Run, event: EventNo, memory: &mut [u8]) -> Answer
 // Dump: the held events and then this one are released, if the output has a place for all of them.
 fn dump(next: StateNo, run: Run, event: EventNo, memory: &[u8], output: &mut [u8]) -> Answer
     requires { ⌜ run .held ≤ length (now memory) ⌝ }
-    ensures { λ r. ⌜ TurnPromise (roomTurn (Move Dump next) (run .held) 0 (length (now (output .entry)))) run event (now (memory .entry)) (now (output .entry)) r (now (memory .entry)) (now (output .exit)) ⌝ }
+    ensures { λ r. ⌜ DumpPromise next run event (now (memory .entry)) (now (output .entry)) r (now (output .exit)) ⌝ }
 {
     let held = run.held;
     if output.len() <= held {

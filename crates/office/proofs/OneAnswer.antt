@@ -1,34 +1,29 @@
--- Any two results that the promise of an exported function allows are equal.
+-- Any two results that a promise of this crate allows are equal.
 -- Assumes nothing.
 use Prim.Native.Nat.{ℕ}
 use mathlib.Core.Path.{_≡_, sym, ap, _∙_}
 use mathlib.Core.List.{List}
-use Rattle.rule.specs.Drawing.{eventNo}
-use Rattle.rulefile.specs.Layout.{drawingIn}
-use Rattle.rulefile.specs.Reading.{verdictOn}
-use Rattle.sheet.specs.Making.{sheetOf}
-use Rattle.monitor.specs.Fresh.{startOf}
+use Rattle.sheet.proofs.OneAnswer.{make-one-answer}
+use Rattle.monitor.proofs.OneAnswer.{event-one-answer}
 use Rattle.monitor.specs.declared.Answer.{Answer}
-use Rattle.office.specs.Told.{madeOf, MakeForC, startedOf, FreshForC, runOf, answeredOf, EventForC}
+use Rattle.office.specs.Told.{madeOf, answeredOf, runOf, MakeForC, FreshForC, EventForC}
 use Rattle.office.specs.declared.Made.{Made}
 use Rattle.office.specs.declared.Started.{Started}
 use Rattle.office.specs.declared.Answered.{Answered}
 
-pub pachallu-make-one-answer : {rule out : List ℕ} {r₁ r₂ : Made} {out₁ out₂ : List ℕ}
-    → MakeForC rule out r₁ out₁ → MakeForC rule out r₂ out₂ → (r₁ ≡ r₂) × (out₁ ≡ out₂)
-pachallu-make-one-answer p q = (
-  p .told ∙ ap madeOf (p .promise .answer ∙ sym (q .promise .answer)) ∙ sym (q .told),
-  p .promise .output ∙ sym (q .promise .output),
-)
+-- the numbers and the sheet
+pub pachallu-make-one-answer : {rule sheet : List ℕ} {a b : Made} {s₁ s₂ : List ℕ} → MakeForC rule sheet a s₁ → MakeForC rule sheet b s₂
+    → (a ≡ b) × (s₁ ≡ s₂)
+pachallu-make-one-answer {rule} {sheet} p q =
+    let one = make-one-answer rule sheet (p .promise) (q .promise) in (p .told ∙ ap madeOf (one .0) ∙ sym (q .told), one .1)
 
-pub pachallu-fresh-one-answer : (sheet : List ℕ) {r₁ r₂ : Started} → FreshForC sheet r₁ → FreshForC sheet r₂ → r₁ ≡ r₂
+pub pachallu-fresh-one-answer : (sheet : List ℕ) {a b : Started} → FreshForC sheet a → FreshForC sheet b → a ≡ b
 pachallu-fresh-one-answer sheet p q = p ∙ sym q
 
-pub pachallu-event-one-answer : {sheet : List ℕ} {state held event : ℕ} {memory output : List ℕ} {r₁ r₂ : Answered} {m₁ m₂ o₁ o₂ : List ℕ}
-    → EventForC sheet state held event memory output r₁ m₁ o₁ → EventForC sheet state held event memory output r₂ m₂ o₂
-    → (r₁ ≡ r₂) × (m₁ ≡ m₂) × (o₁ ≡ o₂)
-pachallu-event-one-answer {state = state} {held = held} p q = (
-  p .told ∙ ap (λ (a : Answer). answeredOf a (runOf state held)) (p .promise .answer ∙ sym (q .promise .answer)) ∙ sym (q .told),
-  p .promise .memory-after ∙ sym (q .promise .memory-after),
-  p .promise .output-after ∙ sym (q .promise .output-after),
-)
+-- the numbers, the memory and the output
+pub pachallu-event-one-answer : {sheet : List ℕ} {state held event : ℕ} {memory output : List ℕ} {a b : Answered} {m₁ m₂ o₁ o₂ : List ℕ}
+    → EventForC sheet state held event memory output a m₁ o₁ → EventForC sheet state held event memory output b m₂ o₂
+    → (a ≡ b) × (m₁ ≡ m₂) × (o₁ ≡ o₂)
+pachallu-event-one-answer {sheet} {state} {held} p q =
+    let one = event-one-answer sheet (p .promise) (q .promise) in
+    (p .told ∙ ap (λ (r : Answer). answeredOf r (runOf state held)) (one .0) ∙ sym (q .told), one .1, one .2)

@@ -38,6 +38,7 @@ pub struct Answered {
     pub released: usize,
 }
 
+// Makes the sheet of a rule file at the front of `sheet`: the refusals 1 to 10, then 16.
 #[no_mangle]
 pub extern "C" fn pachallu_make(rule: &[u8], sheet: &mut [u8]) -> Made
     ensures { λ r. ⌜ MakeForC (now (rule .entry)) (now (sheet .entry)) r (now (sheet .exit)) ⌝ }
@@ -61,6 +62,7 @@ pub extern "C" fn pachallu_make(rule: &[u8], sheet: &mut [u8]) -> Made
     }
 }
 
+// Starts a run: refusal 11, and then state 0 with nothing held.
 #[no_mangle]
 pub extern "C" fn pachallu_fresh(sheet: &[u8]) -> Started
     ensures { λ r. ⌜ FreshForC (now (sheet .entry)) r ⌝ }
@@ -90,6 +92,7 @@ pub extern "C" fn pachallu_fresh(sheet: &[u8]) -> Started
     }
 }
 
+// Offers an event to a run: the refusals 11 to 16. What was released stands at the front of `output`.
 #[no_mangle]
 pub extern "C" fn pachallu_event(
     sheet: &[u8],
@@ -111,12 +114,13 @@ pub extern "C" fn pachallu_event(
             run,
             released,
         } => {
+            let mark = operation.mark();
             let next = run.state;
             Answered {
                 refusal: 0,
                 a: 0,
                 b: 0,
-                operation: operation.mark(),
+                operation: mark,
                 state: next.0,
                 held: run.held,
                 released,

@@ -15,7 +15,8 @@ use Rattle.rule.specs.declared.Operation.the-variants.{Halt, Store, Dump}
 use Rattle.rule.specs.declared.Shape.{Shape}
 use Rattle.rule.specs.declared.Told.{Told}
 use Rattle.printed.specs.Text.{decimal, spaced}
-use Rattle.printed.specs.Printing.{ruleWord, refusedWord, operationWord, headerWords, header, refusalWords, refusalLine, cellLine, rowLines, cellLines, stopAt, monitorText}
+use Rattle.printed.specs.Printing.{ruleWord, refusedWord, operationWord, headerWords, header, refusalWords, refusalLine, cellLine, rowLines, cellLines, monitorText}
+use Rattle.printed.specs.Writers.{stopAt}
 use Rattle.printed.proofs.TextLaws.{decimal-most, decimal-short}
 use Rattle.printed.proofs.LineLaws.{length-line}
 use Rattle.printed.proofs.LoopLaws.{flat-short}
@@ -50,16 +51,22 @@ stop-short has q = by (has q)
     by false = omega arith
 
 module _ (d : Drawing) (well : WellDrawn d) (few : events d ≤ 32) where
-  cells-short : length (cellLines (next d) (operationAt d) (events d) (states d)) ≤ 30720
-  unfolding cellLines rowLines
-  cells-short =
-      let row : (s : ℕ) → s < states d → length (rowLines (next d) (operationAt d) (events d) s) ≤ events d * 15 =
-      λ s h. flat-short _ 15 (events d) (λ e k. cell-short s e (next d s e) _ (omega (arith, well .few-states)) (omega arith) (omega (arith, well .few-states, well .closed s e h k))) in
-      let wide : events d * 15 ≤ 480 = omega arith in
-      omega (arith, flat-short (rowLines (next d) (operationAt d) (events d)) (events d * 15) (states d) row, mul-le-mul (well .few-states) wide)
+  row-short : (s : ℕ) → s < states d → length (rowLines (next d) (operationAt d) (events d) s) ≤ events d * 15
+  unfolding rowLines
+  row-short s h =
+      let n = well .few-states in
+      flat-short _ 15 (events d) (λ e k. let t = well .closed s e h k in cell-short s e (next d s e) _ (omega arith) (omega arith) (omega arith))
 
+  cells-short : length (cellLines (next d) (operationAt d) (events d) (states d)) ≤ 30720
+  unfolding cellLines
+  cells-short =
+      let wide : events d * 15 ≤ 480 = omega arith in
+      omega (arith, flat-short (rowLines (next d) (operationAt d) (events d)) (events d * 15) (states d) row-short, mul-le-mul (well .few-states) wide)
+
+  -- the monitor of 64 states and 32 events at most
   pub monitor-short : length (monitorText d) ≤ 32768
   unfolding monitorText
   monitor-short =
+      let stops = flat-short (stopAt (stopping d)) 4 (states d) (λ q h. stop-short (stopping d) q) in
       rw (length-append, length-append)
-      (omega (arith, header-short (d .shape), cells-short, stop-length (stopping d) (states d) .1, flat-short (stopAt (stopping d)) 4 (states d) (λ q h. stop-short (stopping d) q), well .few-states))
+      (omega (arith, header-short (d .shape), cells-short, stop-length (stopping d) (states d) .1, well .few-states))

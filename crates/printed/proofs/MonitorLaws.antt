@@ -1,4 +1,4 @@
--- Laws of the whole monitor: what it is by an array of operations, and how long it is.
+-- Laws of the whole monitor: what it is by an array of operations, and what is put part by part.
 -- Assumes nothing.
 use Prim.Native.Nat.{ℕ, zero, suc, _<_}
 use mathlib.Core.Path.{_≡_, refl, sym, ap, _∙_}
@@ -15,7 +15,8 @@ use Rattle.rule.specs.declared.Operation.{Operation}
 use Rattle.rule.specs.declared.Operation.the-variants.{Halt, Store, Dump}
 use Rattle.rule.proofs.OperationLaws.{operation-halt}
 use Rattle.printed.specs.Placing.{Room, LineRoom, Put}
-use Rattle.printed.specs.Printing.{ruleWord, headerWords, header, cellLine, rowLines, cellLines, halts, Operations, thoseBelow, stopLine, monitorText}
+use Rattle.printed.specs.Printing.{ruleWord, headerWords, header, cellLine, rowLines, cellLines, thoseBelow, stopLine, monitorText}
+use Rattle.printed.specs.Writers.{halts, Operations}
 use Rattle.printed.proofs.LoopLaws.{flat-same}
 use Rattle.printed.proofs.PlacingLaws.{then, first-room, rest-room}
 use Rattle.printed.proofs.LineLaws.{length-line}

@@ -12,17 +12,18 @@ use Rattle.rule.specs.declared.Operation.the-variants.{Halt}
 use Rattle.rulefile.specs.Layout.{flatUpTo}
 use Rattle.printed.specs.Text.{decimal, spaced, line}
 use Rattle.printed.specs.Placing.{Room, Put}
-use Rattle.printed.specs.Printing.{stopAt, halts, thoseBelow, orNone, stopLine, stopWord, noneWord}
+use Rattle.printed.specs.Printing.{thoseBelow, orNone, stopLine, stopWord, noneWord}
+use Rattle.printed.specs.Writers.{stopAt, halts, stopIf}
 use Rattle.printed.proofs.PlacingLaws.{then, put-length}
 use Rattle.printed.proofs.LineLaws.{spaced-append}
 
 -- what is put of one state
 module _ (q : ℕ) (o : Operation) where
-  pub stop-halt : o ≡ Halt → stopAt (λ t. halts o) q ≡ 32 ∷ decimal q
+  pub stop-halt : o ≡ Halt → stopIf (halts o) q ≡ 32 ∷ decimal q
   unfolding spaced
   stop-halt e = rw (e, append-nil)
 
-  pub stop-not : {o′ : Operation} → o ≡ o′ → halts o′ ≡ false → stopAt (λ t. halts o) q ≡ []
+  pub stop-not : {o′ : Operation} → o ≡ o′ → halts o′ ≡ false → stopIf (halts o) q ≡ []
   unfolding spaced
   stop-not e f = rw (e, f)
 

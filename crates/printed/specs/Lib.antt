@@ -1,3 +1,4 @@
 pub mod Text
 pub mod Placing
 pub mod Printing
+pub mod Writers

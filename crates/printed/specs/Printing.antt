@@ -1,10 +1,10 @@
 -- The printed monitor of a rule file.
 -- Assumes nothing.
-use Prim.Native.Nat.{ℕ, zero, suc, _<_}
+use Prim.Native.Nat.{ℕ, zero, suc}
 use mathlib.Core.Path.{_≡_}
-use mathlib.Core.Bool.{Bool, true, false, cond}
+use mathlib.Core.Bool.{Bool, cond}
 use mathlib.Core.List.{List, [], _∷_, _++_}
-use lib.ListN.{length, getD}
+use lib.ListN.{length}
 use lib.Dec.{leb}
 use Rattle.rule.specs.Drawing.{Drawing, states, events, next}
 use Rattle.rule.specs.Operations.{operationAt}
@@ -22,7 +22,7 @@ use Rattle.rulefile.specs.Reading.{verdictOn}
 use Rattle.rulefile.specs.Writing.{outputBy}
 use Rattle.rulefile.specs.declared.Written.{Written}
 use Rattle.rulefile.specs.declared.Written.the-variants.{Done, Refused}
-use Rattle.printed.specs.Text.{decimal, spaced, line}
+use Rattle.printed.specs.Text.{decimal, line}
 
 -- the words rule, stop, refused, -
 abbrev pub ruleWord : List ℕ
@@ -65,28 +65,10 @@ rowLines next operation k s = flatUpTo (λ e. cellLine s e (next s e) (operation
 unfoldable pub cellLines : (ℕ → ℕ → ℕ) → (ℕ → Operation) → ℕ → ℕ → List ℕ
 cellLines next operation k n = flatUpTo (rowLines next operation k) n
 
--- the number q where it has a property
-abbrev pub thatOne : (ℕ → Bool) → ℕ → List (List ℕ)
-thatOne has q = cond (has q) (decimal q ∷ []) []
-
--- the numbers below n that have it, rising
+-- the numbers below n that have a property, rising
 unfoldable pub thoseBelow : (ℕ → Bool) → ℕ → List (List ℕ)
 thoseBelow has zero = []
-thoseBelow has (suc q) = thoseBelow has q ++ thatOne has q
-
--- it after a space where it has the property
-abbrev pub stopAt : (ℕ → Bool) → ℕ → List ℕ
-stopAt has q = spaced (thatOne has q)
-
--- whether an operation is halt: a state is stopping where a move into it halts
-abbrev pub halts : Operation → Bool
-halts Halt = true
-halts Store = false
-halts Dump = false
-
--- an array that has, at each state of the rule, the operation of a move into it
-pub record Operations (d : Drawing) (l : List Operation) : Type 0 where
-  pub each : (q : ℕ) → q < states d → getD l q Halt ≡ operationAt d q
+thoseBelow has (suc q) = thoseBelow has q ++ cond (has q) (decimal q ∷ []) []
 
 -- or - where there is none
 abbrev pub orNone : List (List ℕ) → List (List ℕ)

@@ -3,7 +3,8 @@ ghost use Prim.Native.Nat.{_≤_};
 ghost use Rattle.rule.specs.Drawing.{body};
 ghost use Rattle.rule.specs.WellDrawn.{WellDrawn};
 ghost use Rattle.printed.specs.Placing.{Room, Put};
-ghost use Rattle.printed.specs.Printing.{Operations, monitorText, PrintPromise};
+ghost use Rattle.printed.specs.Printing.{monitorText, PrintPromise};
+ghost use Rattle.printed.specs.Writers.{Operations};
 
 mod lines;
 mod text;

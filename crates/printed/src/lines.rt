@@ -6,8 +6,9 @@ ghost use Rattle.rule.specs.Reach.{target};
 ghost use Rattle.rule.specs.declared.Operation.the-variants.{Halt};
 ghost use Rattle.rulefile.specs.Layout.{flatUpTo};
 ghost use Rattle.printed.specs.Placing.{Room, LineRoom, Put};
-ghost use Rattle.printed.specs.Printing.{ruleWord, refusedWord, operationWord, headerWords, header, moveWords, cellLine, rowLines, cellLines, halts, stopAt, stopLine, refusalWords, refusalLine};
-ghost use Rattle.printed.specs.Text.{decimal, spaced};
+ghost use Rattle.printed.specs.Printing.{ruleWord, refusedWord, operationWord, headerWords, header, moveWords, cellLine, rowLines, cellLines, stopLine, refusalWords, refusalLine};
+ghost use Rattle.printed.specs.Text.{decimal};
+ghost use Rattle.printed.specs.Writers.{halts, stopIf, stopAt};
 use crate::text::put_byte;
 use crate::text::put_decimal;
 use crate::text::put_number;
@@ -118,8 +119,8 @@ pub(crate) fn put_cells(
 
 // A state after a space where a move into it halts.
 fn put_stop(out: &mut [u8], at: usize, q: StateNo, operation: Operation) -> usize
-    requires { ⌜ Room (now out) at (stopAt (λ t. halts operation) (q .0)) ⌝ }
-    ensures { λ r. ⌜ Put (now (out .entry)) at (stopAt (λ t. halts operation) (q .0)) r (now (out .exit)) ⌝ }
+    requires { ⌜ Room (now out) at (stopIf (halts operation) (q .0)) ⌝ }
+    ensures { λ r. ⌜ Put (now (out .entry)) at (stopIf (halts operation) (q .0)) r (now (out .exit)) ⌝ }
 {
     match operation {
         Operation::Halt => put_number(out, at, q.0),

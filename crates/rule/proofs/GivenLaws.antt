@@ -1,12 +1,12 @@
 -- Each of the conditions 5 to 10, and what it says of the drawing: sound exactly when no cell or pair has the fault, and refused with
 -- its places exactly when those are the first. Assumes nothing.
-use Prim.Native.Nat.{ℕ, _-_, _≤_, _<_}
+use Prim.Native.Nat.{ℕ, _≤_, _<_}
 use native.Mathlib.Omega.{arith}
 use mathlib.Core.Path.{_≡_, refl, sym, ap, _∙_}
 use mathlib.Core.Bool.{Bool, true, _&&_}
 use mathlib.Core.List.{[], _∷_}
 use mathlib.Core.Logic.{_⊎_, inl, inr, ⊎-elim, _↔_}
-use lib.ListN.{length, drop}
+use lib.ListN.{length}
 use lib.Dec.{leb}
 use borrow.Author.Tests.{leb-true, le-leb}
 use Rattle.rule.specs.Sets.{has, isEmpty, namesPast}
@@ -17,7 +17,7 @@ use Rattle.rule.specs.Stopping.{stopsBy}
 use Rattle.rule.specs.Classes.{movesInto, movesOut, forbids, forbidsSome}
 use Rattle.rule.specs.Published.{In, Out}
 use Rattle.rule.specs.Refusals.{refuseIf, firstBelow, firstCell, toldOf, entryAt, entries, memberAt, members, exceeds, excess, moveAt, moves, stopAt, stopped, emptyAt, empties, firstOf, conditions}
-use Rattle.rule.specs.Given.{FirstCell, LowestPair, NoCell, NoPair, BadEntry, Names, BadPair, BadSide, by-R, only-P, BadMember, TooMuch, with-R, with-P, Forbidden, into-P, out-of-R, StopsBy, BothEmpty, Passed, none, past-5, past-6, past-7, past-8, past-9, past-10, Given, given-5, given-6, given-7, given-8, given-9, given-10}
+use Rattle.rule.specs.Given.{FirstCell, LowestPair, NoCell, NoPair, BadEntry, Names, BadPair, BadSide, by-R, only-P, BadMember, TooMuch, with-R, with-P, Forbidden, into-P, out-of-R, StopsBy, BothEmpty}
 use Rattle.rule.specs.declared.Pair.{Pair}
 use Rattle.rule.specs.declared.Refusal.{Refusal}
 use Rattle.rule.specs.declared.Refusal.the-variants.{Entry, Member, Excess, Move, Stopping, Empty}
@@ -27,7 +27,7 @@ use Rattle.rule.proofs.BoolLaws.{clash, not-so, Says, itself, eq-says, 
 use Rattle.rule.proofs.SetLaws.{below-or, true-or, names-iff}
 use Rattle.rule.proofs.PairLaws.{Some, some-says}
 use Rattle.rule.proofs.StoppingLaws.{stops-says}
-use Rattle.rule.proofs.RefusalLaws.{sound-or, refuse-sound, refuse-refused, else-sound, below-sound-iff, below-refused-iff, cells-sound-iff, cells-refused-iff, first-hit, first-more, first-cases, first-none, first-one, first-sound, below-one, cells-one}
+use Rattle.rule.proofs.RefusalLaws.{sound-or, refuse-sound, refuse-refused, else-sound, below-sound-iff, below-refused-iff, cells-sound-iff, cells-refused-iff, first-sound}
 
 -- a verdict that refuses exactly where there is the fault
 record Judges (v : Verdict) (Fault : Type 0) : Type 0 where
@@ -388,102 +388,3 @@ conditions-sound d p0 =
     let p5 = first-sound (stopped d) _ .0 (p4 .1) in
     let p6 = first-sound (empties d) _ .0 (p5 .1) in
     (p1 .0, p2 .0, p3 .0, p4 .0, p5 .0, p6 .0)
-
--- given exactly when
-
--- the refusal of a test is the one that it names
-named : {A : Type 0} (b : Bool) (r s : Refusal) → (r ≡ s → A) → refuseIf b r ≡ Refused s → A
-named b r s f p = f (refuse-refused b r s .0 p .1)
-
-member-named : {A : Type 0} (d : Drawing) (i : ℕ) (r : Refusal) → ((side : ℕ) → Member i side ≡ r → A) → memberAt d i ≡ Refused r → A
-member-named d i r f p = true-or (pastR d i)
-    (λ a. named true (Member i 0) r (f 0) (rw a at p))
-    (λ a. named (pastP d i) (Member i 1) r (f 1) (rw a at p))
-
-module _ (d : Drawing) (whole : length (d .pairs) ≡ count d) (few : states d ≤ 64) (start : initial d < states d) where
-  -- from the conditions
-
-  closed : Passed d 9 → Closed (d .table) (states d) (events d)
-  closed (past-8 (past-7 (past-6 (past-5 none a) b) c) f) = entries-sound d .0 (no-bad-entry d .1 a)
-
-  module _ (r : Refusal) where
-    by-10 : Passed d 10 → empties d ≡ Refused r → Given d r
-    unfolding empties
-    by-10 past p = below-one (emptyAt d) (count d) r (λ i. named (emptyTest d i) (Empty i) r
-        (λ q. rw (← q) (given-10 past (empties-refused d i .0 (rw (← q) at p))))) p
-
-    by-9 : Passed d 9 → stopped d ≡ Refused r → Given d r
-    unfolding stopped
-    by-9 past p = below-one (stopAt d) (count d) r (λ i. named (stopTest d i) (Stopping i) r
-        (λ q. rw (← q) (given-9 past (stopped-refused d (closed past) few start i .0 (rw (← q) at p))))) p
-
-    by-8 : Passed d 8 → moves d ≡ Refused r → Given d r
-    unfolding moves
-    by-8 past p = cells-one (moveAt d) (states d) (events d) r (λ s e. named (moveTest d s e) (moveName s e) r
-        (λ q. rw (← q) (given-8 past (moves-refused d whole s e .0 (rw (← q) at p))))) p
-
-    by-7 : Passed d 7 → excess d ≡ Refused r → Given d r
-    unfolding excess
-    by-7 past p = named (exceeds d) Excess r (λ q. rw (← q) (given-7 past (excess-refused d .0 (rw (← q) at p)))) p
-
-    by-6 : Passed d 6 → members d ≡ Refused r → Given d r
-    unfolding members
-    by-6 past p = below-one (memberAt d) (count d) r (λ i. member-named d i r
-        (λ side q. rw (← q) (given-6 past (members-refused d i side .0 (rw (← q) at p))))) p
-
-    by-5 : entries d ≡ Refused r → Given d r
-    unfolding entries
-    by-5 p = cells-one (entryAt d) (states d) (events d) r (λ s e. named (entryTest d s e) (entryName s e) r
-        (λ q. rw (← q) (given-5 none (entries-refused d s e .0 (rw (← q) at p))))) p
-
-    from-10 : Passed d 10 → firstOf (empties d ∷ []) ≡ Refused r → Given d r
-    from-10 past p = by-10 past (sym (first-one (empties d)) ∙ p)
-
-    from-9 : Passed d 9 → firstOf (stopped d ∷ empties d ∷ []) ≡ Refused r → Given d r
-    from-9 past p = ⊎-elim (by-9 past)
-        (λ q. from-10 (past-9 past (stopped-sound d (closed past) few start .0 (q .0))) (q .1)) (first-cases (stopped d) _ r p)
-
-    from-8 : Passed d 8 → firstOf (moves d ∷ stopped d ∷ empties d ∷ []) ≡ Refused r → Given d r
-    from-8 past p = ⊎-elim (by-8 past) (λ q. from-9 (past-8 past (moves-sound d whole .0 (q .0))) (q .1)) (first-cases (moves d) _ r p)
-
-    from-7 : Passed d 7 → firstOf (excess d ∷ moves d ∷ stopped d ∷ empties d ∷ []) ≡ Refused r → Given d r
-    from-7 past p = ⊎-elim (by-7 past) (λ q. from-8 (past-7 past (excess-sound d .0 (q .0))) (q .1)) (first-cases (excess d) _ r p)
-
-    from-6 : Passed d 6 → firstOf (members d ∷ excess d ∷ moves d ∷ stopped d ∷ empties d ∷ []) ≡ Refused r → Given d r
-    from-6 past p = ⊎-elim (by-6 past) (λ q. from-7 (past-6 past (members-sound d .0 (q .0))) (q .1)) (first-cases (members d) _ r p)
-
-    from-5 : firstOf (conditions d) ≡ Refused r → Given d r
-    from-5 p = ⊎-elim by-5 (λ q. from-6 (past-5 none (no-bad-entry d .0 (q .0))) (q .1)) (first-cases (entries d) _ r p)
-
-  -- back to them
-
-  skip : {n : ℕ} → Passed d n → firstOf (conditions d) ≡ firstOf (drop (n - 5) (conditions d))
-  skip none = refl
-  skip (past-5 past a) = skip past ∙ first-more (entries d) _ (no-bad-entry d .1 a)
-  skip (past-6 past a) = skip past ∙ first-more (members d) _ (members-sound d .1 a)
-  skip (past-7 past a) = skip past ∙ first-more (excess d) _ (excess-sound d .1 a)
-  skip (past-8 past a) = skip past ∙ first-more (moves d) _ (moves-sound d whole .1 a)
-  skip (past-9 past a) = skip past ∙ first-more (stopped d) _ (stopped-sound d (closed past) few start .1 a)
-  skip (past-10 past a) = skip past ∙ first-more (empties d) _ (empties-sound d .1 a)
-
-  refused : {r : Refusal} → Given d r → firstOf (conditions d) ≡ Refused r
-  refused (given-5 {s = s} {e = e} past g) = skip past ∙ first-hit (entries d) _ _ (entries-refused d s e .1 g)
-  refused (given-6 {i = i} {side = side} past g) = skip past ∙ first-hit (members d) _ _ (members-refused d i side .1 g)
-  refused (given-7 past g) = skip past ∙ first-hit (excess d) _ _ (excess-refused d .1 g)
-  refused (given-8 {s = s} {e = e} past g) = skip past ∙ first-hit (moves d) _ _ (moves-refused d whole s e .1 g)
-  refused (given-9 {i = i} past g) = skip past ∙ first-hit (stopped d) _ _ (stopped-refused d (closed past) few start i .1 g)
-  refused (given-10 {i = i} past g) = skip past ∙ first-hit (empties d) _ _ (empties-refused d i .1 g)
-
-  -- each of the refusals 5 to 10 is given exactly when the paper says
-  pub given-iff : (r : Refusal) → (firstOf (conditions d) ≡ Refused r) ↔ Given d r
-  given-iff r = (from-5 r, refused)
-
-  -- and none is exactly when none of their conditions holds
-  pub sound-iff : (firstOf (conditions d) ≡ Sound) ↔ Passed d 11
-  sound-iff = (
-    λ p.
-        let g = conditions-sound d p in
-        let past : Passed d 9 = past-8 (past-7 (past-6 (past-5 none (no-bad-entry d .0 (g .0))) (members-sound d .0 (g .1))) (excess-sound d .0 (g .2))) (moves-sound d whole .0 (g .3)) in
-        past-10 (past-9 past (stopped-sound d (closed past) few start .0 (g .4))) (empties-sound d .0 (g .5)),
-    λ past. skip past ∙ first-none,
-  )

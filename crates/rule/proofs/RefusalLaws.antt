@@ -85,11 +85,6 @@ pub first-sound : (v : Verdict) (vs : List Verdict) → (firstOf (v ∷ vs) ≡ 
 unfolding firstOf
 first-sound v vs = else-sound v (firstOf vs)
 
--- the list is refused as its first verdict is, or that is sound and the list is refused as the rest is
-pub first-cases : (v : Verdict) (vs : List Verdict) (r : Refusal) → firstOf (v ∷ vs) ≡ Refused r → (v ≡ Refused r) ⊎ ((v ≡ Sound) × (firstOf vs ≡ Refused r))
-unfolding firstOf
-first-cases v vs r p = sound-or v (λ s. inr (s, rw s at p)) (λ r′ h. inl (h ∙ rw h at p))
-
 -- the first below n
 
 module _ (f : ℕ → Verdict) where
@@ -195,10 +190,3 @@ module _ (f : ℕ → ℕ → Verdict) (k : ℕ) where
         (sound-below (f (g .state)) (g .event) (g .cells-before))
         (g .refused) n (g .state-in) (g .event-in),
   )
-
--- a refusal among those below n, or among the cells, is that of one of them
-pub below-one : {A : Type 0} (f : ℕ → Verdict) (n : ℕ) (r : Refusal) → ((i : ℕ) → f i ≡ Refused r → A) → firstBelow f n ≡ Refused r → A
-below-one f n r g p = let h = below-refused-iff f n r .0 p in g (h .at) (h .refused)
-
-pub cells-one : {A : Type 0} (f : ℕ → ℕ → Verdict) (n k : ℕ) (r : Refusal) → ((s e : ℕ) → f s e ≡ Refused r → A) → firstCell f n k ≡ Refused r → A
-cells-one f n k r g p = let h = cells-refused-iff f k n r .0 p in g (h .state) (h .event) (h .refused)

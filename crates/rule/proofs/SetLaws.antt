@@ -7,7 +7,8 @@ use Prim.Native.Nat.{ℕ, zero, suc, _+_, _-_, _*_, _/_, _%_, _^_, _≤_, _<_, m
 use native.Mathlib.Omega.{arith}
 use native.Mathlib.Nat.{div-self, div-eq-of-lt, zero-div, pow-suc, mod-lt, div-div-eq-div-mul, div-lt-iff-lt-mul, mul-comm, one-mul, lt-of-lt-of-le}
 use native.Mathlib.Decide.{decLt, ℕ-discrete}
-use lib.Bits.{bitAnd, bitOr, or-step, or-shr, or-add-and, or-lt, and-step, and-shr, and-high, and-le-l}
+use lib.Bits.{bitAnd, bitOr, or-step, or-shr, or-add-and, or-lt, and-step, and-shr, and-high, and-le-l, bitXor, xor-step, xor-shr}
+use lib.Count.{trailingZeros, trailing-le}
 use lib.Pow.{pow-pos, pow-lt, pow-add, shl-shr, shr-shr, pow-mono, shl-exact}
 use lib.Dec.{eqb}
 use borrow.Author.Tests.{eqb-true, eqb-false, eq-eqb, ne-eqb, lt-ltb, le-ltb, not-true, not-false}
@@ -156,6 +157,10 @@ including-lt k x s hx hs =
     (λ h. rw (including-in x s h, ← or-insert x s) (or-lt k x (2 ^ s) hx (pow-lt hs)))
     (λ h. rw (← including-past x s h) hx)
 
+-- and always one below 2 ^ 64 where it was one
+pub including-fits : (x s : ℕ) → x < 2 ^ 64 → including x s < 2 ^ 64
+including-fits x s h = below-or s 64 (λ l. including-lt 64 x s h l) (λ l. rw (← including-past x s l) h)
+
 -- sets with the same members are equal
 
 bit-half : (x s : ℕ) → bit (x / 2) s ≡ bit x (suc s)
@@ -260,7 +265,8 @@ some-bit (suc k) y h d =
 pub member : (x : ℕ) → (x ≡ 0 → ⊥) → (s : ℕ) × (has x s ≡ true)
 member x d = let w : (s : ℕ) × (bit x s ≡ 1) = some-bit x x (lt-pow x) d in (w .0, has-of-bit x (w .0) (w .1))
 
-has-shifted : (n x s : ℕ) → has (x / 2 ^ n) s ≡ has x (n + s)
+-- the members from n on, by a shift
+pub has-shifted : (n x s : ℕ) → has (x / 2 ^ n) s ≡ has x (n + s)
 unfolding has
 has-shifted n x s = rw (shr-shr x n s)
 
@@ -292,3 +298,49 @@ unfolding namesPast isEmpty
 none-named n x e =
     let z : x / 2 ^ n ≡ 0 = eqb-true (x / 2 ^ n) 0 (not-false (eqb (x / 2 ^ n) 0) e) in
     omega (arith, div-lt-iff-lt-mul {k = 2 ^ n} {x = x} {y = 1} (pow-pos n) .0 (omega arith))
+
+-- the code's `x ^ y`: what is in x and not in y is in it, what is in neither is not
+
+pub xor-in : (x y s : ℕ) → has x s ≡ true → has y s ≡ false → has (bitXor x y) s ≡ true
+xor-in x y s mx ny =
+    has-of-bit (bitXor x y) s
+    (rw (xor-shr x y s, xor-step (x / 2 ^ s) (y / 2 ^ s), bit-of-has x s mx, bit-of-out y s ny) (omega arith))
+
+pub xor-out : (x y s : ℕ) → has x s ≡ false → has y s ≡ false → has (bitXor x y) s ≡ false
+xor-out x y s nx ny =
+    out-of-bit (bitXor x y) s
+    (rw (xor-shr x y s, xor-step (x / 2 ^ s) (y / 2 ^ s), bit-of-out x s nx, bit-of-out y s ny) (omega arith))
+
+-- the code's count of zeros: the lowest member
+
+trailing-odd : (k x : ℕ) → x % 2 ≡ 1 → trailingZeros (suc k) x ≡ 0
+unfolding trailingZeros
+trailing-odd k x o = rw o
+
+trailing-even : (k x : ℕ) → x % 2 ≡ 0 → trailingZeros (suc k) x ≡ suc (trailingZeros k (x / 2))
+unfolding trailingZeros
+trailing-even k x z = rw z
+
+pub lowest-in : (k x : ℕ) → x < 2 ^ k → (x ≡ 0 → ⊥) → has x (trailingZeros k x) ≡ true
+lowest-in k x h d = has-of-bit x (trailingZeros k x) (lowest k x h d)
+  where
+    lowest : (k x : ℕ) → x < 2 ^ k → (x ≡ 0 → ⊥) → bit x (trailingZeros k x) ≡ 1
+    lowest zero x h d = absurd (d (omega arith))
+    lowest (suc k) x h d =
+        ⊎-elim
+        (λ z. rw (trailing-even k x (omega arith), ← bit-half x (trailingZeros k (x / 2))) (lowest k (x / 2) (omega (arith, pow-suc 2 k)) (λ e. d (omega arith))))
+        (λ o. rw (trailing-odd k x (omega arith)) o)
+        (bit-cases x 0)
+
+pub lowest-first : (k x i : ℕ) → i < trailingZeros k x → has x i ≡ false
+lowest-first k x i h = out-of-bit x i (first k x i h)
+  where
+    first : (k x i : ℕ) → i < trailingZeros k x → bit x i ≡ 0
+    first zero x i h = absurd (omega (arith, trailing-le 0 x))
+    first (suc k) x zero h =
+        ⊎-elim (λ z. z) (λ o. absurd (omega (arith, trailing-odd k x (omega arith)))) (bit-cases x 0)
+    first (suc k) x (suc i) h =
+        ⊎-elim
+        (λ z. sym (bit-half x i) ∙ first k (x / 2) i (omega (arith, trailing-even k x (omega arith))))
+        (λ o. absurd (omega (arith, trailing-odd k x (omega arith))))
+        (bit-cases x 0)

@@ -91,22 +91,3 @@ pub record StopsBy (d : Drawing) (q i : ℕ) : Type 0 where
 pub record BothEmpty (d : Drawing) (i : ℕ) : Type 0 where
   pub no-R : pairAt d i .r ≡ 0
   pub no-P : pairAt d i .p ≡ 0
-
--- none of the conditions from 5 up to, and without, n holds
-pub data Passed (d : Drawing) : ℕ → Type 0 where
-  none : Passed d 5
-  past-5 : Passed d 5 → NoCell d (BadEntry d) → Passed d 6
-  past-6 : Passed d 6 → NoPair d (BadPair d) → Passed d 7
-  past-7 : Passed d 7 → (TooMuch d → ⊥) → Passed d 8
-  past-8 : Passed d 8 → NoCell d (Forbidden d) → Passed d 9
-  past-9 : Passed d 9 → NoPair d (StopsBy d (initial d)) → Passed d 10
-  past-10 : Passed d 10 → NoPair d (BothEmpty d) → Passed d 11
-
--- the refusal is given: no condition before its own holds, and its own does, at its places
-pub data Given (d : Drawing) : Refusal → Type 0 where
-  given-5 : {s e : ℕ} → Passed d 5 → FirstCell d (BadEntry d) s e → Given d (Entry (stateNo s) (eventNo e))
-  given-6 : {i side : ℕ} → Passed d 6 → BadMember d i side → Given d (Member i side)
-  given-7 : Passed d 7 → TooMuch d → Given d Excess
-  given-8 : {s e : ℕ} → Passed d 8 → FirstCell d (Forbidden d) s e → Given d (Move (stateNo s) (eventNo e))
-  given-9 : {i : ℕ} → Passed d 9 → LowestPair d (StopsBy d (initial d)) i → Given d (Stopping i)
-  given-10 : {i : ℕ} → Passed d 10 → LowestPair d (BothEmpty d) i → Given d (Empty i)

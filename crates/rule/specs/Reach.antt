@@ -41,15 +41,15 @@ unfoldable pub withMoves : List ℕ → ℕ → ℕ → ℕ → ℕ → ℕ
 withMoves table k s x zero = x
 withMoves table k s x (suc j) = including (withMoves table k s x j) (target table k s j)
 
--- x with the states to which one move leads from a member below i
-unfoldable pub movedBelow : List ℕ → ℕ → ℕ → ℕ → ℕ
-movedBelow table k x zero = x
-movedBelow table k x (suc i) =
-    cond (has x i) (withMoves table k i (movedBelow table k x i) k) (movedBelow table k x i)
+-- y with the states to which one move leads from a member of x below i
+unfoldable pub movedBelow : List ℕ → ℕ → ℕ → ℕ → ℕ → ℕ
+movedBelow table k x y zero = y
+movedBelow table k x y (suc i) =
+    cond (has x i) (withMoves table k i (movedBelow table k x y i) k) (movedBelow table k x y i)
 
 -- x with the states to which one move leads from a member
 unfoldable pub movedSet : List ℕ → ℕ → ℕ → ℕ → ℕ
-movedSet table n k x = movedBelow table k x n
+movedSet table n k x = movedBelow table k x x n
 
 -- the states reached from a member of x in at most m moves; zero moves count
 unfoldable pub spread : List ℕ → ℕ → ℕ → ℕ → ℕ → ℕ

@@ -2,35 +2,31 @@
 -- Assumes nothing.
 use mathlib.Core.Path.{_≡_, refl, sym, ap, _∙_}
 use mathlib.Core.List.{List, [], _∷_}
-use mathlib.Core.Bool.{Bool, true, false, not, _&&_, _||_}
-use Prim.Native.Nat.{ℕ, suc, _+_, _-_, _*_, _/_, _^_, _≤_, _<_, min}
+use mathlib.Core.Bool.{Bool, true, false, not}
+use Prim.Native.Nat.{ℕ, _+_, _-_, _/_, _^_, _≤_, _<_}
 use native.Mathlib.Nat.{lt-of-lt-of-le}
 use native.Mathlib.Omega.{arith}
-use native.Mathlib.Numerals.{add-one}
-use borrow.Author.Tests.{le-leb, lt-leb, eq-eqb, ne-eqb}
+use borrow.Author.Tests.{le-leb, lt-leb, ne-eqb}
 use lib.Dec.{leb, eqb}
 use lib.Pow.{pow-mono}
-use lib.ListN.{length, getD, take, drop, length-take, List·getD-eq-default, drop-of-length-le}
-use lib.Seq.{drop-cons, getD-take}
-use Rattle.rule.specs.Classes.{forbids, forbidsSome, movesInto, movesOut}
-use Rattle.rule.specs.Drawing.{Drawing, states, events, count, initial, body, noPair, pairAt, stateNo, eventNo}
+use lib.ListN.{getD, take}
+use lib.Seq.{getD-take}
+use Rattle.rule.specs.Classes.{forbids, forbidsSome}
+use Rattle.rule.specs.Drawing.{Drawing, states, events, initial, body, noPair, pairAt, stateNo, eventNo}
 use Rattle.rule.specs.Operations.{reachOf}
-use Rattle.rule.specs.Reach.{target, reachedWithin}
-use Rattle.rule.specs.Refusals.{refuseIf, orElse, firstOf, firstBelow, firstCell, entries, moves, memberAt, members, exceeds, excess, stopAt, stopped, emptyAt, empties, conditions}
+use Rattle.rule.specs.Reach.{target, Closed, reachedWithin}
+use Rattle.rule.specs.Refusals.{refuseIf, firstOf, firstBelow, firstCell, entries, moves, memberAt, members, exceeds, excess, stopAt, stopped, emptyAt, empties, conditions}
 use Rattle.rule.specs.Sets.{has, isEmpty, namesPast}
 use Rattle.rule.specs.Stopping.{stopsBy}
 use Rattle.rule.proofs.RefusalLaws.{below-hit, below-more, below-end, cells-hit, cells-end, cells-sound-iff, first-hit, first-more}
 use Rattle.rule.proofs.SetLaws.{names-none}
+use Rattle.rulefile.proofs.BanLaws.{or-false}
 use Rattle.rule.specs.declared.Pair.{Pair}
 use Rattle.rule.specs.declared.Shape.{Shape}
 use Rattle.rule.specs.declared.Refusal.{Refusal}
 use Rattle.rule.specs.declared.Refusal.the-variants.{Entry, Member, Excess, Move, Stopping, Empty}
 use Rattle.rule.specs.declared.Verdict.{Verdict}
 use Rattle.rule.specs.declared.Verdict.the-variants.{Sound, Refused}
-
-or-false : (b : Bool) → b ≡ (b || false)
-or-false true = refl
-or-false false = refl
 
 -- 5
 
@@ -58,17 +54,9 @@ pub entries-all : (h : Shape) (table : List ℕ) (s : ℕ) {v : Verdict} → v �
 unfolding entryOf entries
 entries-all h table s is rows le ge = is ∙ sym (cells-end (entryOf table (h .states) (h .events)) (h .events) s (h .states) rows le ge)
 
--- the pairs
-
-module _ (ps : List Pair) (m i : ℕ) where
-  pub pair-unused : m ≤ i → noPair ≡ getD (take m ps) i noPair
-  pair-unused h = sym (List·getD-eq-default (take m ps) noPair (rw length-take (omega arith)))
-
-  pub pair-used : i < m → getD ps i noPair ≡ getD (take m ps) i noPair
-  pair-used h = sym (getD-take m ps i noPair h)
-
-  pub pair-past : length ps ≤ i → noPair ≡ getD (take m ps) i noPair
-  pair-past h = sym (List·getD-eq-default (take m ps) noPair (rw length-take (omega arith)))
+-- pair i of the used ones
+pub pair-used : (ps : List Pair) (m i : ℕ) → i < m → getD ps i noPair ≡ getD (take m ps) i noPair
+pair-used ps m i h = sym (getD-take m ps i noPair h)
 
 -- 6
 
@@ -119,76 +107,28 @@ excess-other d a b c = rw (ne-eqb (d .shape .class) 1 a, ne-eqb (d .shape .class
 
 -- 8
 
-module _ (p : Pair) (s t : ℕ) {a : Bool} where
-  pub into-inside : a ≡ has (p .p) s → a ≡ true → false ≡ movesInto p s t
-  unfolding movesInto
-  into-inside e h = rw (← e, h)
-
-  pub into-outside : a ≡ has (p .p) s → a ≡ false → {b : Bool} → b ≡ has (p .p) t → b ≡ movesInto p s t
-  unfolding movesInto
-  into-outside e h q = rw (← e, h) q
-
-  pub out-inside : a ≡ has (p .r) s → a ≡ true → {b : Bool} → b ≡ has (p .r) t → not b ≡ movesOut p s t
-  unfolding movesOut
-  out-inside e h q = rw (← e, h, q)
-
-  pub out-outside : a ≡ has (p .r) s → a ≡ false → false ≡ movesOut p s t
-  unfolding movesOut
-  out-outside e h = rw (← e, h)
-
-module _ (class : ℕ) (p : Pair) (s t : ℕ) where
-  pub forbids-1 : class ≡ 1 → {a : Bool} → a ≡ movesInto p s t → a ≡ forbids class p s t
-  unfolding forbids
-  forbids-1 c e = rw c (e ∙ or-false (movesInto p s t))
-
-  pub forbids-2 : class ≡ 2 → {a : Bool} → a ≡ movesOut p s t → a ≡ forbids class p s t
-  unfolding forbids
-  forbids-2 c e = rw c e
-
-  pub forbids-3-in : class ≡ 3 → {a : Bool} → a ≡ movesInto p s t → a ≡ true → true ≡ forbids class p s t
-  unfolding forbids
-  forbids-3-in c e h = rw (c, ← e, h)
-
-  pub forbids-3-out : class ≡ 3 → {a b : Bool} → a ≡ movesInto p s t → a ≡ false → b ≡ movesOut p s t → b ≡ forbids class p s t
-  unfolding forbids
-  forbids-3-out c e h q = rw (c, ← e, h) q
-
-  pub forbids-other : (class ≡ 1 → ⊥) → (class ≡ 2 → ⊥) → (class ≡ 3 → ⊥) → false ≡ forbids class p s t
-  unfolding forbids
-  forbids-other a b c = rw (ne-eqb class 1 a, ne-eqb class 2 b, ne-eqb class 3 c)
-
-module _ (class : ℕ) (ps : List Pair) (s t : ℕ) where
-  pub some-hit : (i : ℕ) → i < length ps → true ≡ forbids class (getD ps i noPair) s t → true ≡ forbidsSome class (drop i ps) s t
-  unfolding forbidsSome
-  some-hit i h e = rw (drop-cons ps i noPair h, ← e)
-
-  pub some-more : (i : ℕ) → i < length ps → false ≡ forbids class (getD ps i noPair) s t
-      → forbidsSome class (drop i ps) s t ≡ forbidsSome class (drop (i + 1) ps) s t
-  unfolding forbidsSome
-  some-more i h e = rw (drop-cons ps i noPair h, ← e, add-one)
-
-  pub some-end : (i : ℕ) → length ps ≤ i → false ≡ forbidsSome class (drop i ps) s t
-  unfolding forbidsSome
-  some-end i h = rw (drop-of-length-le ps h)
-
 -- cell s e of a table of k events, for a class and some pairs
 unfoldable pub moveOf : ℕ → List Pair → List ℕ → ℕ → ℕ → ℕ → Verdict
 moveOf class ps table k s e = refuseIf (forbidsSome class ps s (target table k s e)) (Move (stateNo s) (eventNo e))
 
-module _ (h : Shape) (table : List ℕ) (ps : List Pair) (s e : ℕ) {t : ℕ} {b : Bool} where
-  pub move-more : firstBelow (moveOf (h .class) (take (h .pairs) ps) table (h .events) s) e ≡ Sound
-      → t ≡ target table (h .events) s e → b ≡ forbidsSome (h .class) (take (h .pairs) ps) s t → b ≡ false
-      → firstBelow (moveOf (h .class) (take (h .pairs) ps) table (h .events) s) (e + 1) ≡ Sound
+-- a cell that was looked up in the set of what the class forbids from s
+module _ (h : Shape) (table : List ℕ) (ps : List Pair) (few : h .states ≤ 64) (closed : Closed table (h .states) (h .events))
+    (s e : ℕ) (hs : s < h .states) (he : e < h .events) (set : ℕ) (bans : (t : ℕ) → t < 64 → has set t ≡ forbidsSome (h .class) (take (h .pairs) ps) s t)
+    {t : ℕ} (is : t ≡ target table (h .events) s e) {b : Bool} (by : b ≡ has set t) where
+  looked-up : moveOf (h .class) (take (h .pairs) ps) table (h .events) s e ≡ refuseIf b (Move (stateNo s) (eventNo e))
   unfolding moveOf
-  move-more none is by low = below-more (moveOf (h .class) (take (h .pairs) ps) table (h .events) s) e none (rw (← is, ← by, low))
+  looked-up = rw (by, is, bans (target table (h .events) s e) (omega (arith, closed s e hs he)))
+
+  pub move-more : firstBelow (moveOf (h .class) (take (h .pairs) ps) table (h .events) s) e ≡ Sound → b ≡ false
+      → firstBelow (moveOf (h .class) (take (h .pairs) ps) table (h .events) s) (e + 1) ≡ Sound
+  move-more none low = below-more (moveOf (h .class) (take (h .pairs) ps) table (h .events) s) e none (looked-up ∙ rw low)
 
   pub move-hit : firstCell (moveOf (h .class) (take (h .pairs) ps) table (h .events)) s (h .events) ≡ Sound
-      → firstBelow (moveOf (h .class) (take (h .pairs) ps) table (h .events) s) e ≡ Sound
-      → t ≡ target table (h .events) s e → b ≡ forbidsSome (h .class) (take (h .pairs) ps) s t → b ≡ true → s < h .states → e < h .events
+      → firstBelow (moveOf (h .class) (take (h .pairs) ps) table (h .events) s) e ≡ Sound → b ≡ true
       → Refused (Move (stateNo s) (eventNo e)) ≡ moves (body h table ps)
   unfolding moveOf moves
-  move-hit rows none is by high hs he =
-      sym (cells-hit (moveOf (h .class) (take (h .pairs) ps) table (h .events)) (h .events) s e _ rows none (rw (← is, ← by, high)) (h .states) hs he)
+  move-hit rows none high =
+      sym (cells-hit (moveOf (h .class) (take (h .pairs) ps) table (h .events)) (h .events) s e _ rows none (looked-up ∙ rw high) (h .states) hs he)
 
 pub moves-all : (h : Shape) (table : List ℕ) (ps : List Pair) (s : ℕ) {v : Verdict} → v ≡ Sound
     → firstCell (moveOf (h .class) (take (h .pairs) ps) table (h .events)) s (h .events) ≡ Sound → s ≤ h .states → h .states ≤ s

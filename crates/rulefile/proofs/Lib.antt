@@ -1,6 +1,7 @@
 -- lists, and what the layout's functions and the checks come to
 pub mod ListLaws
 pub mod LayoutLaws
+pub mod BanLaws
 pub mod CheckLaws
 -- what a file, or a rule by value, has that passed the checks
 pub mod SoundLaws

@@ -3,21 +3,12 @@
 use mathlib.Core.Path.{_≡_, sym, _∙_}
 use mathlib.Core.List.{List}
 use Prim.Native.Nat.{ℕ}
-use Rattle.rule.specs.Drawing.{body}
-use Rattle.rule.specs.Refusals.{firstOf, conditions}
-use Rattle.rule.specs.declared.Pair.{Pair}
 use Rattle.rule.specs.declared.Rule.{Rule}
-use Rattle.rule.specs.declared.Shape.{Shape}
-use Rattle.rule.specs.declared.Verdict.{Verdict}
 use Rattle.rulefile.specs.Reading.{partsOf, readingOf}
 use Rattle.rulefile.specs.Writing.{WritePromise}
 use Rattle.rulefile.specs.declared.Contents.{Contents}
 use Rattle.rulefile.specs.declared.Reading.{Reading}
 use Rattle.rulefile.specs.declared.Written.{Written}
-
-pub checked-one-answer : (s : Shape) (table : List ℕ) (pairs : List Pair) {a b : Verdict}
-    → a ≡ firstOf (conditions (body s table pairs)) → b ≡ firstOf (conditions (body s table pairs)) → a ≡ b
-checked-one-answer s table pairs p q = p ∙ sym q
 
 pub parts-one-answer : (f : List ℕ) {a b : Contents} → a ≡ partsOf f → b ≡ partsOf f → a ≡ b
 parts-one-answer f p q = p ∙ sym q

@@ -3,12 +3,14 @@
 ghost use mathlib.Core.Path.{_≡_};
 ghost use mathlib.Core.Bool.{not};
 ghost use mathlib.Core.List.{[]};
+ghost use Prim.Native.Nat.{ℕ, _≤_, _<_};
 ghost use lib.ListN.{take};
 ghost use Rattle.rule.specs.Classes.{forbids, forbidsSome, movesInto, movesOut};
 ghost use Rattle.rule.specs.Drawing.{body, pairAt};
+ghost use Rattle.rule.specs.Reach.{Closed};
 ghost use Rattle.rule.specs.Refusals.{refuseIf, firstOf, conditions};
 ghost use Rattle.rule.specs.Refusals as paper;
-ghost use Rattle.rule.specs.Sets.{isEmpty, namesPast};
+ghost use Rattle.rule.specs.Sets.{has, isEmpty, namesPast};
 ghost use Rattle.rule.specs.declared.Refusal.the-variants.{Excess};
 use rule::EventNo;
 use rule::Pair;
@@ -22,7 +24,7 @@ use rule::reach::reached;
 use rule::sets::contains;
 
 // 5: the first entry in row order that names no state.
-pub(crate) fn entries(shape: Shape, table: &[u8]) -> Verdict
+fn entries(shape: Shape, table: &[u8]) -> Verdict
     ensures { λ r. ⌜ r ≡ paper.entries (body shape (now (table .entry)) []) ⌝ }
 {
     let states = shape.states;
@@ -40,18 +42,12 @@ pub(crate) fn entries(shape: Shape, table: &[u8]) -> Verdict
     verdict
 }
 
-// Pair i of the used ones; past them, and past the eight that a rule carries, the empty pair.
+// Pair i, one of the used ones.
 fn pair_at(shape: Shape, pairs: [Pair; 8], i: u8) -> Pair
+    requires { ⌜ (i < shape .pairs) × (shape .pairs ≤ 8) ⌝ }
     ensures { λ r. ⌜ r ≡ pairAt (body shape [] pairs) i ⌝ }
 {
-    if shape.pairs <= i {
-        return Pair { r: 0, p: 0 };
-    }
-    let at = i as usize;
-    if at < 8 {
-        return pairs[at];
-    }
-    Pair { r: 0, p: 0 }
+    pairs[i as usize]
 }
 
 // Whether a set names a state that is `states` or more.
@@ -66,7 +62,8 @@ fn names_past(states: u8, set: u64) -> bool
 }
 
 // 6: the lowest used pair that names no state, and which of its two sets does.
-pub(crate) fn members(shape: Shape, pairs: [Pair; 8]) -> Verdict
+fn members(shape: Shape, pairs: [Pair; 8]) -> Verdict
+    requires { ⌜ shape .pairs ≤ 8 ⌝ }
     ensures { λ r. ⌜ r ≡ paper.members (body shape [] pairs) ⌝ }
 {
     for i in 0..shape.pairs {
@@ -92,7 +89,8 @@ fn wanted_empty(set: u64) -> Verdict
 }
 
 // 7: R in class 1, P in class 2 and in class 4.
-pub(crate) fn excess(shape: Shape, pairs: [Pair; 8]) -> Verdict
+fn excess(shape: Shape, pairs: [Pair; 8]) -> Verdict
+    requires { ⌜ (1 ≤ shape .pairs) × (shape .pairs ≤ 8) ⌝ }
     ensures { λ r. ⌜ r ≡ paper.excess (body shape [] pairs) ⌝ }
 {
     let pair = pair_at(shape, pairs, 0);
@@ -109,77 +107,73 @@ pub(crate) fn excess(shape: Shape, pairs: [Pair; 8]) -> Verdict
     Verdict::Sound
 }
 
-// Whether a move is one from outside P into P.
-fn moves_into(pair: Pair, s: StateNo, t: StateNo) -> bool
-    ensures { λ r. ⌜ r ≡ movesInto pair (s .0) (t .0) ⌝ }
+// The states to which a move from s is one from outside P into P: all of P, where s is outside.
+fn entering(pair: Pair, s: StateNo) -> u64
+    ensures { λ r. ⌜ ((t : ℕ) → t < 64 → has r t ≡ movesInto pair (s .0) t) ⌝ }
 {
     if contains(pair.p, s) {
-        return false;
+        return 0;
     }
-    contains(pair.p, t)
+    pair.p
 }
 
-// Whether a move is one from R out of R.
-fn moves_out(pair: Pair, s: StateNo, t: StateNo) -> bool
-    ensures { λ r. ⌜ r ≡ movesOut pair (s .0) (t .0) ⌝ }
+// The states to which a move from s is one from R out of R: all outside R, where s is in it.
+fn leaving(pair: Pair, s: StateNo) -> u64
+    ensures { λ r. ⌜ ((t : ℕ) → t < 64 → has r t ≡ movesOut pair (s .0) t) ⌝ }
 {
     if contains(pair.r, s) {
-        return !contains(pair.r, t);
+        return !pair.r;
     }
-    false
+    0
 }
 
-// Whether the class forbids a move for a pair.
-fn forbidden_by(class: u8, pair: Pair, s: StateNo, t: StateNo) -> bool
-    ensures { λ r. ⌜ r ≡ forbids class pair (s .0) (t .0) ⌝ }
+// The states to which the class forbids a move from s for a pair.
+fn banned_by(class: u8, pair: Pair, s: StateNo) -> u64
+    ensures { λ r. ⌜ ((t : ℕ) → t < 64 → has r t ≡ forbids class pair (s .0) t) ⌝ }
 {
     if class == 1 {
-        return moves_into(pair, s, t);
+        return entering(pair, s);
     }
     if class == 2 {
-        return moves_out(pair, s, t);
+        return leaving(pair, s);
     }
     if class == 3 {
-        if moves_into(pair, s, t) {
-            return true;
-        }
-        return moves_out(pair, s, t);
+        return entering(pair, s) | leaving(pair, s);
     }
-    false
+    0
 }
 
-// Whether it does for one of the first `count` pairs.
-fn forbidden(class: u8, pairs: [Pair; 8], count: u8, s: StateNo, t: StateNo) -> bool
-    ensures { λ r. ⌜ r ≡ forbidsSome class (take count pairs) (s .0) (t .0) ⌝ }
+// The states to which it does for one of the used pairs: what a row's moves are held to.
+fn banned(shape: Shape, pairs: [Pair; 8], s: StateNo) -> u64
+    requires { ⌜ shape .pairs ≤ 8 ⌝ }
+    ensures { λ r. ⌜ ((t : ℕ) → t < 64 → has r t ≡ forbidsSome (shape .class) (take (shape .pairs) pairs) (s .0) t) ⌝ }
 {
-    let end: usize = if count < 8 { count as usize } else { 8 };
-    let mut i: usize = 0;
-    while i < end {
-        if forbidden_by(class, pairs[i], s, t) {
-            return true;
-        }
-        i += 1;
+    let mut set: u64 = 0;
+    for i in 0..shape.pairs {
+        set |= banned_by(shape.class, pairs[i as usize], s);
     }
-    false
+    set
 }
 
-// 8: the first move in row order that the class forbids. Class 4 forbids none.
-pub(crate) fn moves(shape: Shape, table: &[u8], pairs: [Pair; 8]) -> Verdict
+// 8: the first move in row order that the class forbids. Class 4 forbids none. Check 5 has found every entry below N, so that
+// each is a state that a set can hold.
+fn moves(shape: Shape, table: &[u8], pairs: [Pair; 8]) -> Verdict
+    requires { ⌜ (shape .states ≤ 64) × (shape .pairs ≤ 8) × Closed (now table) (shape .states) (shape .events) ⌝ }
     ensures { λ r. ⌜ r ≡ paper.moves (body shape (now (table .entry)) pairs) ⌝ }
 {
-    let class = shape.class;
-    if class == 4 {
+    if shape.class == 4 {
         return Verdict::Sound;
     }
     let states = shape.states;
     let events = shape.events;
     let mut verdict = Verdict::Sound;
-    'cells: for s in 0..states {
+    'rows: for s in 0..states {
+        let set = banned(shape, pairs, StateNo(s));
         for e in 0..events {
             let t = next(table, events, StateNo(s), EventNo(e));
-            if forbidden(class, pairs, shape.pairs, StateNo(s), t) {
+            if contains(set, t) {
                 verdict = Verdict::Refused(Refusal::Move(StateNo(s), EventNo(e)));
-                break 'cells;
+                break 'rows;
             }
         }
     }
@@ -187,7 +181,8 @@ pub(crate) fn moves(shape: Shape, table: &[u8], pairs: [Pair; 8]) -> Verdict
 }
 
 // 9: the lowest used pair by which the initial state is stopping.
-pub(crate) fn stopped(shape: Shape, table: &[u8], pairs: [Pair; 8]) -> Verdict
+fn stopped(shape: Shape, table: &[u8], pairs: [Pair; 8]) -> Verdict
+    requires { ⌜ shape .pairs ≤ 8 ⌝ }
     ensures { λ r. ⌜ r ≡ paper.stopped (body shape (now (table .entry)) pairs) ⌝ }
 {
     let initial = shape.initial;
@@ -202,7 +197,8 @@ pub(crate) fn stopped(shape: Shape, table: &[u8], pairs: [Pair; 8]) -> Verdict
 }
 
 // 10: the lowest used pair with both sets empty.
-pub(crate) fn empties(shape: Shape, pairs: [Pair; 8]) -> Verdict
+fn empties(shape: Shape, pairs: [Pair; 8]) -> Verdict
+    requires { ⌜ shape .pairs ≤ 8 ⌝ }
     ensures { λ r. ⌜ r ≡ paper.empties (body shape [] pairs) ⌝ }
 {
     for i in 0..shape.pairs {
@@ -216,8 +212,9 @@ pub(crate) fn empties(shape: Shape, pairs: [Pair; 8]) -> Verdict
     Verdict::Sound
 }
 
-// The checks 5 to 10 in order.
-pub fn checked(shape: Shape, table: &[u8], pairs: [Pair; 8]) -> Verdict
+// The checks 5 to 10 in order, of a shape in range.
+pub(crate) fn checked(shape: Shape, table: &[u8], pairs: [Pair; 8]) -> Verdict
+    requires { ⌜ (shape .states ≤ 64) × (1 ≤ shape .pairs) × (shape .pairs ≤ 8) ⌝ }
     ensures { λ r. ⌜ r ≡ firstOf (conditions (body shape (now (table .entry)) pairs)) ⌝ }
 {
     let verdict = entries(shape, table);

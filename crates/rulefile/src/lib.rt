@@ -3,7 +3,7 @@ ghost use mathlib.Core.Path.{_≡_};
 ghost use Rattle.rulefile.specs.Reading.{partsOf, readingOf};
 ghost use Rattle.rulefile.specs.Writing.{WritePromise};
 
-pub mod checks;
+mod checks;
 mod layout;
 
 use rule::Pair;

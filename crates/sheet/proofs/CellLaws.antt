@@ -15,7 +15,7 @@ use Rattle.octets.specs.Numbers.{digits}
 use Rattle.octets.specs.Copies.{copied}
 use Rattle.octets.proofs.CopyLaws.{copied-full}
 use Rattle.octets.proofs.ListLaws.{store-more, part-rest}
-use Rattle.rule.specs.Drawing.{next, body}
+use Rattle.rule.specs.Drawing.{body}
 use Rattle.rule.specs.declared.Pair.{Pair}
 use Rattle.rule.specs.declared.Shape.{Shape}
 use Rattle.sheet.specs.Making.{cellAt, endOf, sheetOf, marksOf}

@@ -2,7 +2,7 @@
 -- Assumes nothing.
 use Prim.Native.Nat.{ℕ, _+_, _-_, _*_, _≤_, _<_}
 use native.Mathlib.Omega.{arith}
-use mathlib.Core.Path.{_≡_, refl, sym, _∙_}
+use mathlib.Core.Path.{_≡_, sym, _∙_}
 use mathlib.Core.List.{List, _++_}
 use lib.ListN.{length, getD, take, drop}
 use lib.Seq.{length-take-le}
@@ -20,7 +20,7 @@ use Rattle.rulefile.specs.Layout.{drawingIn}
 use Rattle.rulefile.specs.Reading.{verdictOn, partsOf}
 use Rattle.rulefile.specs.declared.Contents.{Contents}
 use Rattle.rulefile.specs.declared.Written.the-variants.{Done, Refused as Declined}
-use Rattle.rulefile.proofs.PartsLaws.{SoundFile, sound-file, table-drawn, SoundParts, sound-parts, parts-verdict}
+use Rattle.rulefile.proofs.PartsLaws.{sound-file, table-drawn, SoundParts, sound-parts, parts-verdict}
 use Rattle.rulefile.proofs.SoundLaws.{cells-in}
 use Rattle.sheet.specs.Making.{sheetOf, MakePromise}
 use Rattle.sheet.proofs.MakingLaws.{Formed, sheet-length, low}

@@ -18,7 +18,6 @@ use Rattle.rulefile.proofs.SoundLaws.{le-says, lt-says}
 use Rattle.sheet.specs.Given.{BadSheet, short, unmarked, no-states, many-states, no-events, many-events, no-initial, wrong-distance, wrong-length, GoodSheet}
 use Rattle.sheet.specs.Opening.{back, headIn, wholeSize, opens, openedOf}
 use Rattle.sheet.specs.declared.Head.{Head}
-use Rattle.sheet.specs.declared.Opened.{Opened}
 use Rattle.sheet.specs.declared.Opened.the-variants.{Sheet, Refused}
 
 -- a sheet opens exactly when it is good

@@ -1,7 +1,7 @@
 -- The sheet that is made from a rule: a cell for each table entry, in the table's order, and six bytes that point back.
 -- Assumes nothing.
 use Prim.Native.Nat.{ℕ, _+_, _*_}
-use mathlib.Core.List.{List, [], _∷_, _++_, map}
+use mathlib.Core.List.{List, _∷_, _++_, map}
 use Rattle.octets.specs.Numbers.{digits}
 use Rattle.rule.specs.Drawing.{Drawing, states, padded}
 use Rattle.rule.specs.Operations.{markOf, operationAt}

@@ -1,4 +1,4 @@
--- `office::pachallu_event` meets its contract, a lemma of ToldLaws for each return.
+-- `pachallu_event` offers the event, and tells its answer (ToldLaws).
 -- Assumes nothing.
 use borrow.Author.Needs.{needs}
 use Rattle.office.proofs.ToldLaws.{event-taken, event-refused}

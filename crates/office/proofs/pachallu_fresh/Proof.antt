@@ -1,7 +1,7 @@
--- `office::pachallu_fresh` meets its contract, a lemma of ToldLaws for each return.
+-- `pachallu_fresh` starts a run, and tells where it stands (ToldLaws).
 -- Assumes nothing.
 use borrow.Author.Needs.{needs}
-use Rattle.office.proofs.ToldLaws.{fresh-sound, fresh-refused}
+use Rattle.office.proofs.ToldLaws.{start-sound, start-refused}
 use Rattle.office.proofs.pachallu_fresh.Statement.{statement}
 use Rattle.office.proofs.pachallu_fresh.Tie as tie
 
@@ -18,10 +18,10 @@ told-requires : tie.Need-told-requires
 told-requires c κs = search needs
 
 returns : tie.Need-returns
-returns c = search (needs, fresh-sound)
+returns c = search (needs, start-sound)
 
 returns-2 : tie.Need-returns-2
-returns-2 c = search (needs, fresh-refused)
+returns-2 c = search (needs, start-refused)
 
 pub pachallu-fresh-spec : {M : Type 1} → statement M
 pachallu-fresh-spec =

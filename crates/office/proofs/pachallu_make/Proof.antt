@@ -1,7 +1,7 @@
--- `office::pachallu_make` meets its contract, a lemma of ToldLaws for each return.
+-- `pachallu_make` makes the sheet, and tells what came of it (ToldLaws).
 -- Assumes nothing.
 use borrow.Author.Needs.{needs}
-use Rattle.office.proofs.ToldLaws.{make-done, make-refused}
+use Rattle.office.proofs.ToldLaws.{made-done, made-refused}
 use Rattle.office.proofs.pachallu_make.Statement.{statement}
 use Rattle.office.proofs.pachallu_make.Tie as tie
 
@@ -21,13 +21,13 @@ same-length : tie.Need-same-length
 same-length c = search needs
 
 returns : tie.Need-returns
-returns c = search (needs, make-done)
+returns c = search (needs, made-done)
 
 same-length-2 : tie.Need-same-length-2
 same-length-2 c = search needs
 
 returns-2 : tie.Need-returns-2
-returns-2 c = search (needs, make-refused)
+returns-2 c = search (needs, made-refused)
 
 pub pachallu-make-spec : {M : Type 1} → statement M
 pachallu-make-spec =

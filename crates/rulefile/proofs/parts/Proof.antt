@@ -117,7 +117,7 @@ part-checked-end : tie.Need-part-checked-end
 part-checked-end c = search needs
 
 checked-requires : tie.Need-checked-requires
-checked-requires c κs = search needs
+checked-requires c κs = let g = good (c .before .before .before .before .before .before) .ranged in (g .states-in, g .some-pairs, g .pairs-in)
 
 -- what the checks were made of is what the file is cut into
 told : (c : tie.After-checked) → c .checked .result

@@ -75,7 +75,7 @@ slice-aggregate-checked : tie.Need-slice-aggregate-checked
 slice-aggregate-checked c = sym (length-take-le _ _ (table-fits (c .before .before .before .before .before)))
 
 checked-requires : tie.Need-checked-requires
-checked-requires c κs = search needs
+checked-requires c κs = let g = good (c .before .before .before .before .before) .ranged in (g .states-in, g .some-pairs, g .pairs-in)
 
 enum-known-verdict-2 : tie.Need-enum-known-verdict-2
 enum-known-verdict-2 c = search needs

@@ -7,7 +7,7 @@ use lib.ListN.{getD}
 use Rattle.rule.specs.declared.Operation.the-variants.{Halt}
 use Rattle.rulefile.specs.Layout.{flatUpTo}
 use Rattle.printed.specs.Placing.{Put}
-use Rattle.printed.specs.Printing.{stopAt, halts}
+use Rattle.printed.specs.Writers.{stopAt, halts}
 use Rattle.printed.proofs.LoopLaws.{flat-none, flat-room, flat-more, flat-all}
 use Rattle.printed.proofs.PlacingLaws.{put-length}
 use Rattle.printed.proofs.lines.put_stops.Statement.{statement}

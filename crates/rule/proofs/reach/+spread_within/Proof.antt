@@ -2,7 +2,7 @@
 -- Assumes nothing.
 use borrow.Author.Needs.{needs}
 use Prim.Native.Nat.{ℕ, _<_}
-use Rattle.rule.proofs.StepLaws.{spread-none, spread-stops, spread-more}
+use Rattle.rule.proofs.StepLaws.{spread-none, spread-stops, spread-more, only-fresh}
 use borrow.Fn.Kinds.{In}
 use borrow.Fn.PlainCycle.{Measures, is, falls, and}
 use Rattle.rule.proofs.reach.spread_within.Reads as spread-within
@@ -13,7 +13,7 @@ use Rattle.rule.proofs.reach.+spread_within.{statement}
 use Rattle.rule.proofs.reach.+spread_within.Tie.{close}
 
 abbrev μ-spread-within : Measures 1 spread-within-kinds.ps ℕ
-μ-spread-within κs a = a .1 .1 .1 .1 .0
+μ-spread-within κs a = a .1 .1 .1 .1 .1 .0
 
 abbrev spread-within-at : ℕ → In 1 spread-within-kinds.ps
 spread-within-at t =
@@ -65,7 +65,7 @@ spread-within-spread-within-requires : (t : ℕ) → spread-within-lts.Need-spre
   spread-within-below t,
   spread-within.Post,
 ) (spread-within-at t) spread-within.Post
-spread-within-spread-within-requires t c κs = search needs
+spread-within-spread-within-requires t c κs = search (needs, only-fresh)
 
 spread-within-returns-3 : (t : ℕ) → spread-within-lts.Need-returns-3 (
   moved-reads.Asked,

@@ -1,7 +1,7 @@
 -- `rule::reach::reached_within` meets its contract.
 -- Assumes nothing.
 use borrow.Author.Needs.{needs}
-use Rattle.rule.proofs.StepLaws.{within}
+use Rattle.rule.proofs.StepLaws.{only-all, within}
 use Rattle.rule.proofs.reach.reached_within.Statement.{statement}
 use Rattle.rule.proofs.reach.reached_within.Tie as tie
 
@@ -9,7 +9,7 @@ insert-requires : tie.Need-insert-requires
 insert-requires c κs = search needs
 
 spread-within-requires : tie.Need-spread-within-requires
-spread-within-requires c κs = search needs
+spread-within-requires c κs = only-all _ _ _ _
 
 returns : tie.Need-returns
 returns c = search (needs, within)

@@ -2,8 +2,10 @@
 -- Assumes nothing.
 use borrow.Author.Needs.{needs}
 use mathlib.Core.Path.{sym, _∙_}
+use mathlib.Core.List.{[]}
 use Rattle.rule.specs.Drawing.{body}
 use Rattle.rule.specs.Refusals.{empties}
+use Rattle.rule.proofs.GivenLaws.{entries-sound}
 use Rattle.rule.proofs.RefusalLaws.{first-one}
 use Rattle.rulefile.proofs.CheckLaws.{entries-body, members-body, excess-body, empties-body, told-here, told-later}
 use Rattle.rulefile.proofs.checks.checked.Statement.{statement}
@@ -72,7 +74,9 @@ returns-3 c =
     (told-here _ _ (c .before .before .excess .ensures ∙ excess-body h t ps) (c .enum-told6 .given .1)))
 
 moves-requires : tie.Need-moves-requires
-moves-requires c κs = search needs
+moves-requires c κs =
+    let i = c .before .before .before .before .before .before .before .before .before .before in
+    (i .pre .0, i .pre .2, entries-sound (body (i .args .shape) (i .args .table .now) []) .0 (sym (c .before .before .before .before .before .before .before .before .entries .ensures) ∙ c .before .before .before .before .before .before .enum-told .given .1))
 
 enum-told-7 : tie.Need-enum-told-7
 enum-told-7 c = search needs

@@ -11,75 +11,78 @@ use Rattle.rule.proofs.RefusalLaws.{below-none, cells-none, cells-more}
 use Rattle.rulefile.proofs.CheckLaws.{moveOf, move-more, move-hit, moves-all, moves-four}
 use Rattle.rulefile.proofs.checks.moves.Statement.{statement}
 use Rattle.rulefile.proofs.checks.moves.Tie as tie
-use Rattle.rulefile.proofs.checks.moves.Reads as reads
-use Rattle.rulefile.proofs.checks.moves.Lts as lts
-use Rattle.rule.proofs.reach.next.Reads as next-reads
-use Rattle.rulefile.proofs.checks.forbidden.Reads as forbidden-reads
 
 abbrev Inv-loop : tie.InvT-loop
-Inv-loop shape table pairs class states events verdict₀ s e₀ verdict e = (e ≤ events) × (verdict ≡ Sound) × (firstBelow (moveOf class (take (shape .pairs) pairs) table events s) e ≡ Sound)
+Inv-loop shape table pairs states events verdict₀ s set e₀ verdict e = (e ≤ events) × (verdict ≡ Sound) × (firstBelow (moveOf (shape .class) (take (shape .pairs) pairs) table events s) e ≡ Sound)
 
 abbrev μ-loop : tie.MeasureT-loop
-μ-loop shape table pairs class states events verdict₀ s e₀ verdict e = events - e
+μ-loop shape table pairs states events verdict₀ s set e₀ verdict e = events - e
 
-abbrev Inv-cells : tie.InvT-cells
-Inv-cells shape table pairs class states events verdict₀ s₀ verdict s = (s ≤ states) × (verdict ≡ Sound) × (firstCell (moveOf class (take (shape .pairs) pairs) table events) s events ≡ Sound)
+abbrev Inv-rows : tie.InvT-rows
+Inv-rows shape table pairs states events verdict₀ s₀ verdict s = (s ≤ states) × (verdict ≡ Sound) × (firstCell (moveOf (shape .class) (take (shape .pairs) pairs) table events) s events ≡ Sound)
 
-abbrev μ-cells : tie.MeasureT-cells
-μ-cells shape table pairs class states events verdict₀ s₀ verdict s = states - s
+abbrev μ-rows : tie.MeasureT-rows
+μ-rows shape table pairs states events verdict₀ s₀ verdict s = states - s
 
-returns : tie.Need-returns Inv-loop μ-loop Inv-cells μ-cells
+returns : tie.Need-returns Inv-loop μ-loop Inv-rows μ-rows
 returns c = search (needs, moves-four)
 
-cells-holds : tie.Need-cells-holds Inv-loop μ-loop Inv-cells μ-cells
-cells-holds c = (omega arith, refl, cells-none _ _)
+rows-holds : tie.Need-rows-holds Inv-loop μ-loop Inv-rows μ-rows
+rows-holds c = (omega arith, refl, cells-none _ _)
 
-loop-holds : tie.Need-loop-holds Inv-loop μ-loop Inv-cells μ-cells
-loop-holds c = (omega arith, c .before .cells .inv .1, below-none _)
+banned-requires : tie.Need-banned-requires Inv-loop μ-loop Inv-rows μ-rows
+banned-requires c κs = search needs
 
-next-requires : tie.Need-next-requires Inv-loop μ-loop Inv-cells μ-cells
+loop-holds : tie.Need-loop-holds Inv-loop μ-loop Inv-rows μ-rows
+loop-holds c = (omega arith, c .before .before .rows .inv .1, below-none _)
+
+next-requires : tie.Need-next-requires Inv-loop μ-loop Inv-rows μ-rows
 next-requires c κs = search needs
 
-forbidden-requires : tie.Need-forbidden-requires Inv-loop μ-loop Inv-cells μ-cells
-forbidden-requires c κs = search needs
+contains-requires : tie.Need-contains-requires Inv-loop μ-loop Inv-rows μ-rows
+contains-requires c κs = search needs
 
-add-e : tie.Need-add-e Inv-loop μ-loop Inv-cells μ-cells
+add-e : tie.Need-add-e Inv-loop μ-loop Inv-rows μ-rows
 add-e c = omega arith
 
-loop-less : tie.Need-loop-less Inv-loop μ-loop Inv-cells μ-cells
+loop-less : tie.Need-loop-less Inv-loop μ-loop Inv-rows μ-rows
 loop-less c = omega arith
 
-loop-again : tie.Need-loop-again Inv-loop μ-loop Inv-cells μ-cells
+loop-again : tie.Need-loop-again Inv-loop μ-loop Inv-rows μ-rows
 loop-again c =
     let l = c .before .before .before .before .loop in
-    let a = c .before .before .before .before .before .before .before .before .before .args in (
+    let r = c .before .before .before .before .before .before .before .rows in
+    let i = c .before .before .before .before .before .before .before .before .before .before .before in (
       omega arith,
       l .inv .1,
-      move-more (a .shape) (a .table .now) (a .pairs) _ (l .e) (l .inv .2) (c .before .before .next .ensures) (c .before .forbidden .ensures) (c .if2 .left),
+      move-more (i .args .shape) (i .args .table .now) (i .args .pairs) (i .pre .0) (i .pre .2) (r .s) (l .e)
+          (c .before .before .before .before .before .before .rows-test .taken) (c .before .before .before .loop-test .taken) (c .before .before .before .before .before .banned .result) (c .before .before .before .before .before .banned .ensures)
+          (c .before .before .next .ensures) (c .before .contains .ensures) (l .inv .2) (c .if2 .left),
     )
 
-add-s : tie.Need-add-s Inv-loop μ-loop Inv-cells μ-cells
+add-s : tie.Need-add-s Inv-loop μ-loop Inv-rows μ-rows
 add-s c = omega arith
 
-cells-less : tie.Need-cells-less Inv-loop μ-loop Inv-cells μ-cells
-cells-less c = omega arith
+rows-less : tie.Need-rows-less Inv-loop μ-loop Inv-rows μ-rows
+rows-less c = omega arith
 
-cells-again : tie.Need-cells-again Inv-loop μ-loop Inv-cells μ-cells
-cells-again c =
+rows-again : tie.Need-rows-again Inv-loop μ-loop Inv-rows μ-rows
+rows-again c =
     let l = c .before .loop in
-    let r = c .before .before .before .cells in
+    let r = c .before .before .before .before .rows in
     (omega arith, l .inv .1, cells-more _ _ (r .s) (l .e) (r .inv .2) (l .inv .2) (l .inv .0) (c .loop-test .left))
 
-returns-2 : tie.Need-returns-2 Inv-loop μ-loop Inv-cells μ-cells
+returns-2 : tie.Need-returns-2 Inv-loop μ-loop Inv-rows μ-rows
 returns-2 c = search (needs, moves-all)
 
-returns-3 : tie.Need-returns-3 Inv-loop μ-loop Inv-cells μ-cells
+returns-3 : tie.Need-returns-3 Inv-loop μ-loop Inv-rows μ-rows
 returns-3 c =
     let l = c .before .before .before .before .loop in
-    let r = c .before .before .before .before .before .before .cells in
-    let a = c .before .before .before .before .before .before .before .before .before .args in
-    move-hit (a .shape) (a .table .now) (a .pairs) (r .s) (l .e) (r .inv .2) (l .inv .2) (c .before .before .next .ensures) (c .before .forbidden .ensures) (c .if2 .taken)
-    (c .before .before .before .before .before .cells-test .taken) (c .before .before .before .loop-test .taken)
+    let r = c .before .before .before .before .before .before .before .rows in
+    let i = c .before .before .before .before .before .before .before .before .before .before .before in
+    move-hit (i .args .shape) (i .args .table .now) (i .args .pairs) (i .pre .0) (i .pre .2) (r .s) (l .e)
+    (c .before .before .before .before .before .before .rows-test .taken) (c .before .before .before .loop-test .taken) (c .before .before .before .before .before .banned .result) (c .before .before .before .before .before .banned .ensures)
+    (c .before .before .next .ensures) (c .before .contains .ensures) (r .inv .2) (l .inv .2) (c .if2 .taken)
 
 pub moves-spec : {M : Type 1} → statement M
 moves-spec =
@@ -87,18 +90,19 @@ moves-spec =
     (tie.spec
     Inv-loop
     μ-loop
-    Inv-cells
-    μ-cells
+    Inv-rows
+    μ-rows
     returns
-    cells-holds
+    rows-holds
+    banned-requires
     loop-holds
     next-requires
-    forbidden-requires
+    contains-requires
     add-e
     loop-less
     loop-again
     add-s
-    cells-less
-    cells-again
+    rows-less
+    rows-again
     returns-2
     returns-3)

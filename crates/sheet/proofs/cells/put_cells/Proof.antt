@@ -1,10 +1,9 @@
 -- `put_cells` meets its contract: the cells below i stand at the front. Assumes nothing.
 use borrow.Author.Needs.{needs}
-use native.Mathlib.Omega.{arith}
 use mathlib.Core.Path.{_≡_, refl}
-use mathlib.Core.List.{List, map, _++_}
-use Prim.Native.Nat.{ℕ, _≤_, _-_, _+_}
-use lib.ListN.{length, getD, take, drop, length-set}
+use mathlib.Core.List.{map, _++_}
+use Prim.Native.Nat.{_≤_, _-_}
+use lib.ListN.{length, take, drop, length-set}
 use Rattle.sheet.proofs.CellLaws.{withMark, entry-fits, entry-in, cell-fits, cells-more, cells-all}
 use Rattle.sheet.proofs.cells.put_cells.Statement.{statement}
 use Rattle.sheet.proofs.cells.put_cells.Tie as tie
