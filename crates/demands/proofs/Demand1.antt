@@ -27,6 +27,12 @@ use Rattle.monitor.specs.Fresh.{freshRun, startOf}
 use Rattle.monitor.specs.Event.{turnOf, EventPromise, OneAnswer}
 use Rattle.monitor.specs.declared.Run.{Run}
 use Rattle.monitor.specs.declared.Answer.the-variants.{Refused}
+use Rattle.printed.specs.Printing.{PrintPromise}
+use Rattle.printed.proofs.RefusedLaws.{print-kept}
+use Rattle.office.specs.Told.{MakeForC, EventForC, MakeKept, EventKept}
+use Rattle.office.specs.declared.Made.{Made}
+use Rattle.office.specs.declared.Answered.{Answered}
+use Rattle.office.proofs.RefusedLaws.{make-kept, event-kept}
 use Rattle.monitor.proofs.AnswerLaws.{turn-refuses, turn-one, refused-kept, start-refused}
 
 pub record Demand1 : Type 0 where
@@ -47,6 +53,12 @@ pub record Demand1 : Type 0 where
   pub event-refused : (sheet : List ℕ) (run : Run) (e : EventNo) (memory output : List ℕ) (x : Refusal) (memory′ output′ : List ℕ)
       → EventPromise sheet run e memory output (Refused x) memory′ output′
       → Numbered 11 16 x × (memory′ ≡ memory) × (output′ ≡ output)
+  -- printing: 16, and the output as it was
+  pub print-refused : (f out : List ℕ) (x : Refusal) (out′ : List ℕ) → PrintPromise f out (Unwritten x) out′ → (x ≡ Room) × (out′ ≡ out)
+  -- and from C: a refusal is not 0, is a number of the table, and leaves every buffer and the run state that was given
+  pub c-make : (rule out : List ℕ) (r : Made) (out′ : List ℕ) → MakeForC rule out r out′ → (r .refusal ≡ 0 → ⊥) → MakeKept out r out′
+  pub c-event : (sheet : List ℕ) (state held event : ℕ) (memory output : List ℕ) (r : Answered) (memory′ output′ : List ℕ)
+      → EventForC sheet state held event memory output r memory′ output′ → (r .refusal ≡ 0 → ⊥) → EventKept state held memory output r memory′ output′
 
 pub demand-1 : Demand1
 unfolding readingOf
@@ -68,4 +80,7 @@ demand-1 =
       event-refused = λ sheet run e memory output x memory′ output′ p.
           let k = refused-kept (turnOf sheet run e memory output) run e memory output x memory′ output′ p in
           (turn-refuses (openedOf sheet) sheet run e memory output x (k .0), k .1, k .2);
+      print-refused = print-kept;
+      c-make = λ rule out r out′ p n. make-kept p n;
+      c-event = λ sheet state held event memory output r memory′ output′ p n. event-kept p n;
     }

@@ -2,10 +2,13 @@
 -- Assumes nothing.
 use Prim.Native.Nat.{ℕ}
 use mathlib.Core.Path.{_≡_}
+use mathlib.Core.Logic.{_⊎_}
 use mathlib.Core.List.{List}
 use Rattle.rule.specs.Drawing.{stateNo, eventNo}
 use Rattle.rule.specs.Operations.{markOf}
-use Rattle.rule.specs.Refusals.{toldOf}
+use Rattle.rule.specs.Refusals.{toldOf, Numbered}
+use Rattle.rule.specs.declared.Refusal.{Refusal}
+use Rattle.rule.specs.declared.Refusal.the-variants.{Room}
 use Rattle.rule.specs.declared.Verdict.{Verdict}
 use Rattle.rule.specs.declared.Verdict.the-variants.{Sound, Refused as Unsound}
 use Rattle.rulefile.specs.declared.Written.{Written}
@@ -62,3 +65,22 @@ pub record EventForC (sheet : List ℕ) (state held event : ℕ) (memory output 
   pub answer : Answer
   pub promise : EventPromise sheet (runOf state held) (eventNo event) memory output answer memory′ output′
   pub told : r ≡ answeredOf answer (runOf state held)
+
+-- what a refused call leaves: the output as it was and nothing written, refused by a number of the table
+pub record MakeKept (out : List ℕ) (r : Made) (out′ : List ℕ) : Type 0 where
+  pub output-kept : out′ ≡ out
+  pub written : r .written ≡ 0
+  pub cause : Refusal
+  pub told : r .refusal ≡ toldOf cause .number
+  pub number : Numbered 1 10 cause ⊎ (cause ≡ Room)
+
+-- a refused event leaves the memory, the output and the run state as they were
+pub record EventKept (state held : ℕ) (memory output : List ℕ) (r : Answered) (memory′ output′ : List ℕ) : Type 0 where
+  pub memory-kept : memory′ ≡ memory
+  pub output-kept : output′ ≡ output
+  pub state-kept : r .state ≡ state
+  pub held-kept : r .held ≡ held
+  pub released : r .released ≡ 0
+  pub cause : Refusal
+  pub told : r .refusal ≡ toldOf cause .number
+  pub number : Numbered 11 16 cause

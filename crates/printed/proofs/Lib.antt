@@ -9,4 +9,5 @@ pub mod MonitorLaws
 pub mod LengthLaws
 pub mod PrintLaws
 pub mod Example
+pub mod RefusedLaws
 pub mod OneAnswer

@@ -1,7 +1,7 @@
 -- Laws of sets of states: their members, equal sets, common members, and what the code's bit operations come to.
 -- Assumes nothing.
 use mathlib.Core.Path.{_≡_, refl, sym, ap, _∙_}
-use mathlib.Core.Bool.{Bool, true, false, _&&_, _||_}
+use mathlib.Core.Bool.{Bool, true, false, not, _&&_, _||_}
 use mathlib.Core.Logic.{_⊎_, inl, inr, ⊎-elim, _↔_}
 use Prim.Native.Nat.{ℕ, zero, suc, _+_, _-_, _*_, _/_, _%_, _^_, _≤_, _<_, max, min}
 use native.Mathlib.Omega.{arith}
@@ -344,3 +344,30 @@ lowest-first k x i h = out-of-bit x i (first k x i h)
         (λ z. sym (bit-half x i) ∙ first k (x / 2) i (omega (arith, trailing-even k x (omega arith))))
         (λ o. absurd (omega (arith, trailing-odd k x (omega arith))))
         (bit-cases x 0)
+
+-- the members of two sets together, and the states outside one
+pub has-or : (x y t : ℕ) → has (bitOr x y) t ≡ has x t || has y t
+has-or x y t =
+    let e = bit-or x y t in
+    ⊎-elim
+    (λ z. ⊎-elim
+    (λ w. rw (out-of-bit x t z, out-of-bit y t w) (out-of-bit (bitOr x y) t (omega arith)))
+    (λ w. rw (out-of-bit x t z, has-of-bit y t w) (has-of-bit (bitOr x y) t (omega arith)))
+    (bit-cases y t))
+    (λ o. rw (has-of-bit x t o) (has-of-bit (bitOr x y) t (⊎-elim (λ w. omega arith) (λ w. omega arith) (bit-cases y t))))
+    (bit-cases x t)
+
+bit-not : (k x t : ℕ) → x < 2 ^ k → t < k → bit (2 ^ k - 1 - x) t + bit x t ≡ 1
+bit-not zero x t h l = absurd (omega arith)
+bit-not (suc k) x zero h l = omega (arith, pow-suc 2 k)
+bit-not (suc k) x (suc t) h l =
+    let e : (2 ^ suc k - 1 - x) / 2 ≡ 2 ^ k - 1 - x / 2 = omega (arith, pow-suc 2 k) in
+    rw (← bit-half (2 ^ suc k - 1 - x) t, ← bit-half x t, e) (bit-not k (x / 2) t (omega (arith, pow-suc 2 k)) (omega arith))
+
+pub has-not : (x t : ℕ) → x < 2 ^ 64 → t < 64 → has (2 ^ 64 - 1 - x) t ≡ not (has x t)
+has-not x t h l =
+    let e = bit-not 64 x t h l in
+    ⊎-elim
+    (λ z. rw (out-of-bit x t z) (has-of-bit (2 ^ 64 - 1 - x) t (omega arith)))
+    (λ o. rw (has-of-bit x t o) (out-of-bit (2 ^ 64 - 1 - x) t (omega arith)))
+    (bit-cases x t)

@@ -3,51 +3,18 @@
 use mathlib.Core.Path.{_≡_, refl, _∙_}
 use mathlib.Core.List.{List, [], _∷_, _++_}
 use mathlib.Core.Bool.{Bool, true, false, not, _||_}
-use mathlib.Core.Logic.{⊎-elim}
-use Prim.Native.Nat.{ℕ, zero, suc, _+_, _-_, _/_, _^_, _<_, max}
-use native.Mathlib.Nat.{div-div-eq-div-mul, mul-comm, pow-suc}
+use Prim.Native.Nat.{ℕ, zero, suc, _+_, _-_, _^_, _<_}
 use native.Mathlib.Omega.{arith}
 use native.Mathlib.Numerals.{add-one}
 use borrow.Author.Tests.{ne-eqb}
-use lib.Bits.{bitOr, or-step, or-shr}
+use lib.Bits.{bitOr}
 use lib.ListN.{length, getD, take}
 use lib.Seq.{take-suc}
 use Rattle.rule.specs.Classes.{forbids, forbidsSome, movesInto, movesOut}
 use Rattle.rule.specs.Drawing.{noPair}
-use Rattle.rule.specs.Sets.{bit, has}
+use Rattle.rule.specs.Sets.{has}
 use Rattle.rule.specs.declared.Pair.{Pair}
-use Rattle.rule.proofs.SetLaws.{bit-cases, has-of-bit, out-of-bit, has-none}
-
--- a member of one of two sets
-pub has-or : (x y t : ℕ) → has (bitOr x y) t ≡ has x t || has y t
-has-or x y t =
-    let e : bit (bitOr x y) t ≡ max (bit x t) (bit y t) = rw (or-shr x y t, or-step (x / 2 ^ t) (y / 2 ^ t)) (omega arith) in
-    ⊎-elim
-    (λ z. ⊎-elim
-    (λ w. rw (out-of-bit x t z, out-of-bit y t w) (out-of-bit (bitOr x y) t (omega arith)))
-    (λ w. rw (out-of-bit x t z, has-of-bit y t w) (has-of-bit (bitOr x y) t (omega arith)))
-    (bit-cases y t))
-    (λ o. rw (has-of-bit x t o) (has-of-bit (bitOr x y) t (⊎-elim (λ w. omega arith) (λ w. omega arith) (bit-cases y t))))
-    (bit-cases x t)
-
--- a state outside a set
-bit-half : (x t : ℕ) → bit (x / 2) t ≡ bit x (suc t)
-bit-half x t = rw (div-div-eq-div-mul, pow-suc, mul-comm 2 (2 ^ t))
-
-bit-not : (k x t : ℕ) → x < 2 ^ k → t < k → bit (2 ^ k - 1 - x) t + bit x t ≡ 1
-bit-not zero x t h l = absurd (omega arith)
-bit-not (suc k) x zero h l = omega (arith, pow-suc 2 k)
-bit-not (suc k) x (suc t) h l =
-    let e : (2 ^ suc k - 1 - x) / 2 ≡ 2 ^ k - 1 - x / 2 = omega (arith, pow-suc 2 k) in
-    rw (← bit-half (2 ^ suc k - 1 - x) t, ← bit-half x t, e) (bit-not k (x / 2) t (omega (arith, pow-suc 2 k)) (omega arith))
-
-pub has-not : (x t : ℕ) → x < 2 ^ 64 → t < 64 → has (2 ^ 64 - 1 - x) t ≡ not (has x t)
-has-not x t h l =
-    let e = bit-not 64 x t h l in
-    ⊎-elim
-    (λ z. rw (out-of-bit x t z) (has-of-bit (2 ^ 64 - 1 - x) t (omega arith)))
-    (λ o. rw (has-of-bit x t o) (out-of-bit (2 ^ 64 - 1 - x) t (omega arith)))
-    (bit-cases x t)
+use Rattle.rule.proofs.SetLaws.{has-none, has-or, has-not}
 
 -- one pair: a move into P, a move out of R
 

@@ -6,7 +6,7 @@ use mathlib.Core.Path.{_≡_, refl, _∙_, subst}
 use mathlib.Core.Bool.{Bool, true, false, not, cond}
 use mathlib.Core.List.{List, [], _∷_}
 use mathlib.Core.Logic.{_↔_, Iff·trans, Iff·and, Iff·rfl}
-use lib.ListN.{length, length-append}
+use lib.ListN.{length}
 use lib.Seq.{length-take-le}
 use lib.Dec.{leb}
 use Rattle.rule.specs.Drawing.{Drawing, states, count, initial, drawn, ruleOf, stateNo, eventNo}
@@ -22,12 +22,13 @@ use Rattle.rule.proofs.RefusalLaws.{not-both}
 use Rattle.rule.proofs.BoolLaws.{clash}
 use Rattle.rule.proofs.NumberLaws.{entries-give, members-give, excess-gives, moves-give, stopped-gives, empties-give}
 use Rattle.rule.proofs.GivenLaws.{entries-sound, entries-refused, members-refused, excess-refused, moves-refused, stopped-refused, empties-refused}
-use Rattle.rulefile.specs.Layout.{drawingIn, trailerIn, upTo, class, range, fileOf}
+use Rattle.rulefile.specs.Layout.{drawingIn, trailerIn, class, range, fileOf}
 use Rattle.rulefile.specs.Reading.{verdictOn, readingBy, readingOf}
 use Rattle.rulefile.specs.Writing.{verdictOf, settledBy, PutPromise, WritePromise}
 use Rattle.rulefile.specs.Given.{over, BadFrame, BadClass, BadRange, bad-N, bad-m, bad-initial, BadDistance, LongNote, NoRoom, Call, Row, NoneBefore, NoRow, onFile, reading, writing}
 use Rattle.rulefile.specs.declared.Written.{Written}
 use Rattle.rulefile.specs.declared.Written.the-variants.{Done, Refused as Unwritten}
+use Rattle.rulefile.proofs.ListLaws.{length-upTo}
 use Rattle.rulefile.proofs.FaultLaws.{Fails, passed, le-fails, frame-fails, class-fails, range-fails, distance-fails}
 use Rattle.rulefile.proofs.RowLaws.{number, Answers, row, test-row, then, no-rows, no-row, none-before-1, exactly, sound-exactly}
 
@@ -74,16 +75,11 @@ room-rows f =
 
 -- the verdict on a file, and on a rule by value
 
-upTo-length : {A : Type 0} (g : ℕ → A) (n : ℕ) → length (upTo g n) ≡ n
-unfolding upTo
-upTo-length g zero = refl
-upTo-length g (suc n) = length-append (upTo g n) (g n ∷ []) ∙ (let h = upTo-length g n in omega arith)
-
 pub file-answers : (f : List ℕ) (no-room : Type 0) → Answers (onFile f no-room) 1 10 (verdictOn f)
 unfolding verdictOn firstOf drawingIn
 file-answers f no-room =
     then _ _ (omega arith) (test-row 1 Frame (λ a b. refl) (omega arith) (frame-fails f)) (λ _.
-    shape-rows (onFile f no-room) (distance-fails (trailerIn f) (length f)) (λ h. upTo-length _ _))
+    shape-rows (onFile f no-room) (distance-fails (trailerIn f) (length f)) (λ h. length-upTo _ _))
 
 pub rule-answers : (r : Rule) (room : ℕ) → length (r .pairs) ≡ 8 → Answers (writing r room) 1 10 (verdictOf r)
 unfolding verdictOf firstOf drawn
