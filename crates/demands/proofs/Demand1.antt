@@ -5,9 +5,8 @@
 -- Here: the answer is determined, and what a refusal leaves. A refused event's answer has no run state: the caller keeps its own.
 -- Assumes nothing.
 use Prim.Native.Nat.{ℕ}
-use mathlib.Core.Path.{_≡_}
+use mathlib.Core.Path.{_≡_, sym}
 use mathlib.Core.Logic.{_⊎_}
-use mathlib.Core.Path.{sym}
 use mathlib.Core.List.{List}
 use Rattle.rule.specs.Drawing.{drawn, stateNo, zeroRule}
 use Rattle.rule.specs.Refusals.{Numbered}
@@ -27,13 +26,13 @@ use Rattle.monitor.specs.Fresh.{freshRun, startOf}
 use Rattle.monitor.specs.Event.{turnOf, EventPromise, OneAnswer}
 use Rattle.monitor.specs.declared.Run.{Run}
 use Rattle.monitor.specs.declared.Answer.the-variants.{Refused}
+use Rattle.monitor.proofs.AnswerLaws.{turn-refuses, turn-one, refused-kept, start-refused}
 use Rattle.printed.specs.Printing.{PrintPromise}
 use Rattle.printed.proofs.RefusedLaws.{print-kept}
 use Rattle.office.specs.Told.{MakeForC, EventForC, MakeKept, EventKept}
 use Rattle.office.specs.declared.Made.{Made}
 use Rattle.office.specs.declared.Answered.{Answered}
 use Rattle.office.proofs.RefusedLaws.{make-kept, event-kept}
-use Rattle.monitor.proofs.AnswerLaws.{turn-refuses, turn-one, refused-kept, start-refused}
 
 pub record Demand1 : Type 0 where
   -- reading: 1 to 10, and a rule with 0 in every place
