@@ -1,4 +1,4 @@
--- What the operations of a rule rest on: a rule that is read or written has it (`well-drawn` of OperationLaws).
+-- What the operations of a rule rest on: a rule that is read or written has it (`well-drawn` of ClassLaws).
 -- Assumes nothing.
 use Prim.Native.Nat.{ℕ, _≤_, _<_, _^_}
 use mathlib.Core.Path.{_≡_}
