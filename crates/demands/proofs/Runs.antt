@@ -17,7 +17,7 @@ use Rattle.rule.specs.declared.Verdict.the-variants.{Sound}
 use Rattle.rulefile.specs.Layout.{trailerOf, upTo, drawingIn, framed, classed, ranged, placed, flatUpTo, trailerOut, fileOf}
 use Rattle.rulefile.specs.Reading.{verdictOn}
 use Rattle.sheet.specs.Making.{sheetOf}
-use Rattle.sheet.specs.Opening.{opens, openedOf}
+use Rattle.sheet.specs.Opening.{inRange, opens, openedOf}
 use Rattle.monitor.specs.Event.{cellTurn, lookOf}
 use Rattle.history.specs.History.{History, call}
 use Rattle.demands.specs.Marked.{A, S, G, O, D, Stand, eight, begin, one, all, markOf, marked, found, wanted}
@@ -50,7 +50,7 @@ sheets = refl
 
 -- the twelve marked runs
 pub the-twelve : found marked ≡ wanted marked
-unfolding found wanted markOf all one sheetOf digits operationAt smallestOf paper.valueOf reachOf has insert including meetsBelow meets target withMoves movedBelow movedSet spread reachedWithin opens openedOf cellTurn lookOf
+unfolding found wanted markOf all one sheetOf digits operationAt smallestOf paper.valueOf reachOf has insert including meetsBelow meets target withMoves movedBelow movedSet spread reachedWithin inRange opens openedOf cellTurn lookOf
 the-twelve = refl
 
 -- a computed run is a history

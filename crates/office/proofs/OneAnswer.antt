@@ -3,7 +3,7 @@
 use Prim.Native.Nat.{ℕ}
 use mathlib.Core.Path.{_≡_, sym, ap, _∙_}
 use mathlib.Core.List.{List}
-use Rattle.sheet.proofs.OneAnswer.{make-one-answer}
+use Rattle.making.proofs.OneAnswer.{make-one-answer}
 use Rattle.monitor.proofs.OneAnswer.{event-one-answer}
 use Rattle.monitor.specs.declared.Answer.{Answer}
 use Rattle.office.specs.Told.{madeOf, answeredOf, runOf, MakeForC, FreshForC, EventForC}

@@ -43,7 +43,7 @@ pub struct Answered {
 pub extern "C" fn pachallu_make(rule: &[u8], sheet: &mut [u8]) -> Made
     ensures { λ r. ⌜ MakeForC (now (rule .entry)) (now (sheet .entry)) r (now (sheet .exit)) ⌝ }
 {
-    match sheet::make(rule, sheet) {
+    match making::make(rule, sheet) {
         Written::Done(written) => Made {
             refusal: 0,
             a: 0,

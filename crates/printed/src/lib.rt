@@ -9,14 +9,14 @@ ghost use Rattle.printed.specs.Writers.{Operations};
 mod lines;
 mod text;
 
+use operations::operation;
+use reach::reached;
 use rule::Operation;
 use rule::Pair;
 use rule::Refusal;
 use rule::Shape;
 use rule::StateNo;
 use rule::Verdict;
-use rule::operations::operation;
-use rule::reach::reached;
 use rulefile::Written;
 
 // The operation of a move into each state of the rule.

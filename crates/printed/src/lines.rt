@@ -13,12 +13,12 @@ use crate::text::put_byte;
 use crate::text::put_decimal;
 use crate::text::put_number;
 use crate::text::put_word;
+use reach::next;
 use rule::EventNo;
 use rule::Operation;
 use rule::Shape;
 use rule::StateNo;
 use rule::Told;
-use rule::reach::next;
 
 // The first line: class, N, K, m, initial state.
 pub(crate) fn put_header(out: &mut [u8], at: usize, shape: Shape) -> usize

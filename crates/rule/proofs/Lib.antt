@@ -1,6 +1,5 @@
 -- sets of states, and what they reach
 pub mod SetLaws
-pub mod StepLaws
 pub mod MoveLaws
 pub mod CountLaws
 pub mod WayLaws
@@ -11,7 +10,6 @@ pub mod RefusalLaws
 pub mod GivenLaws
 pub mod NumberLaws
 -- operations, stopping states and classes
-pub mod ValueLaws
 pub mod PairLaws
 pub mod OrderLaws
 pub mod StoppingLaws
@@ -21,5 +19,4 @@ pub mod OperationLaws
 pub mod PublishedLaws
 pub mod ConstructionLaws
 -- any two results that a promise allows are equal
-pub mod OneAnswerReach
-pub mod OneAnswerOperations
+pub mod OneAnswer

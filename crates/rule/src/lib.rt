@@ -1,11 +1,8 @@
-// The drawn rule and what it means: document 01, "The rule", in types and in the few functions that everything else is made of.
-// specs/ has the meaning, a file for each heading of the paper; proofs/ has its laws.
+// The drawn rule and what it means: document 01, "The rule", in types. specs/ has the meaning, a file for each heading of the
+// paper; proofs/ has its laws. What is computed of a rule stands in the crates reach and operations.
 ghost use mathlib.Core.Path.{_≡_};
+ghost use Rattle.rule.specs.Operations.{markOf};
 ghost use Rattle.rule.specs.Refusals.{tell, toldOf};
-
-pub mod operations;
-pub mod reach;
-pub mod sets;
 
 // A state's number, and an event's code. Each is a type of its own, so that neither stands where the other is meant.
 pub struct StateNo(pub u8);
@@ -50,6 +47,19 @@ pub enum Operation {
     Halt,
     Store,
     Dump,
+}
+
+impl Operation {
+    // Its number in a sheet.
+    pub fn mark(self) -> u8
+        ensures { λ r. ⌜ r ≡ markOf self ⌝ }
+    {
+        match self {
+            Operation::Halt => 0,
+            Operation::Store => 1,
+            Operation::Dump => 2,
+        }
+    }
 }
 
 // The refusals in the order of checking, with their places A and B where they have any. `toldOf` of specs/ gives each its number.

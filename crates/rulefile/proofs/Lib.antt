@@ -1,8 +1,6 @@
--- lists, and what the layout's functions and the checks come to
+-- lists, and what the layout's functions come to
 pub mod ListLaws
 pub mod LayoutLaws
-pub mod BanLaws
-pub mod CheckLaws
 -- what a file, or a rule by value, has that passed the checks
 pub mod SoundLaws
 pub mod ReadingLaws

@@ -24,7 +24,7 @@ use Rattle.rulefile.specs.Reading.{verdictOn, partsBy, partsOf, readingB
 use Rattle.rulefile.specs.declared.Trailer.{Trailer}
 use Rattle.rulefile.specs.declared.Contents.{Contents}
 use Rattle.rulefile.specs.declared.Reading.{Reading}
-use Rattle.rulefile.proofs.CheckLaws.{conditions-note}
+use Rattle.checks.proofs.CheckLaws.{conditions-note}
 use Rattle.rulefile.proofs.ListLaws.{length-upTo, take-padded, copied-padded}
 use Rattle.rulefile.proofs.PartsLaws.{sound-parts, parts-verdict}
 use Rattle.rulefile.proofs.SoundLaws.{Headed, Placed, headed-sound, cells-in}

@@ -11,7 +11,7 @@ use borrow.Rule.Slice.PartMut.{putMid}
 use Rattle.octets.specs.Copies.{copied}
 use Rattle.octets.proofs.CopyLaws.{copied-whole}
 use Rattle.octets.proofs.ListLaws.{part-more, part-length}
-use Rattle.rule.specs.Drawing.{Drawing, body, drawn}
+use Rattle.rule.specs.Drawing.{Drawing, drawn}
 use Rattle.rule.specs.Refusals.{firstOf, conditions}
 use Rattle.rule.proofs.RefusalLaws.{append-hit, append-more}
 use Rattle.rule.specs.declared.Rule.{Rule}
@@ -23,7 +23,9 @@ use Rattle.rulefile.specs.Layout.{class, range, pairsOut, trailerOut, fi
 use Rattle.rulefile.specs.Writing.{noted, verdictOf, PutPromise}
 use Rattle.rulefile.specs.declared.Written.{Written}
 use Rattle.rulefile.specs.declared.Written.the-variants.{Done, Refused}
-use Rattle.rulefile.proofs.CheckLaws.{conditions-note}
+use Rattle.checks.specs.Checked.{checkedOf}
+use Rattle.checks.proofs.CheckLaws.{conditions-note}
+use Rattle.checks.proofs.HeldLaws.{in-range}
 use Rattle.rulefile.proofs.LayoutLaws.{length-pairsOut, length-trailerOut, pairsOut-take}
 use Rattle.rulefile.proofs.SoundLaws.{Measured, measured-sound, cells-in}
 
@@ -74,11 +76,12 @@ module _ (r : Rule) {v : Verdict} (head : v ≡ firstOf (class (r .shape) ∷ ra
     measured = measured-sound (r .shape) (r .length) (sym head ∙ sound)
 
     -- 5 to 10
-    pub rule-told : {w : Verdict} → w ≡ firstOf (conditions (body (r .shape) (take (r .shape .states * r .shape .events) (r .table)) (r .pairs)))
-        → w ≡ verdictOf r
+    pub rule-told : {w : Verdict} → w ≡ checkedOf (r .shape) (take (r .shape .states * r .shape .events) (r .table)) (r .pairs) → w ≡ verdictOf r
     unfolding verdictOf drawn
     rule-told e =
+        let g = measured .ranged in
         e
+        ∙ in-range (r .shape) (take (r .shape .states * r .shape .events) (r .table)) (r .pairs) (g .states-in) (g .some-pairs) (g .pairs-in)
         ∙ ap firstOf (sym (conditions-note (r .shape) (take (r .length) (r .note)) _ _))
         ∙ sym (append-more (class (r .shape) ∷ range (r .shape) 0 ∷ noted (r .length) ∷ []) (conditions (drawn r)) (sym head ∙ sound))
 

@@ -1,14 +1,13 @@
-// The layout of a rule file: what its bytes say, and the bytes of a rule.
+// The layout of a rule file: what its bytes say.
 ghost use mathlib.Core.Path.{_≡_};
-ghost use mathlib.Core.List.{[], _∷_, _++_};
-ghost use Prim.Native.Nat.{_+_, _*_, _≤_};
+ghost use mathlib.Core.List.{[], _∷_};
+ghost use Prim.Native.Nat.{_*_, _≤_};
 ghost use lib.ListN.{length};
 ghost use Rattle.rule.specs.Drawing.{noPair, padded, zeroRule};
 ghost use Rattle.rule.specs.Refusals.{firstOf};
 ghost use Rattle.rule.specs.declared.Verdict.the-variants.{Refused};
-ghost use Rattle.rulefile.specs.Layout.{trailerOf, class, range, distance, pairIn, upTo, pairOut, pairsOut, trailerOut};
+ghost use Rattle.rulefile.specs.Layout.{trailerOf, class, range, distance, pairIn, upTo};
 ghost use Rattle.rulefile.specs.Reading.{partsBy, readingBy};
-ghost use Rattle.rulefile.specs.Writing.{noted};
 use crate::Contents;
 use crate::Reading;
 use crate::Trailer;
@@ -93,7 +92,7 @@ fn ranged(shape: Shape, spare: u8) -> bool
 }
 
 // The refusals 2 and 3.
-pub(crate) fn shaped(shape: Shape, spare: u8) -> Verdict
+pub fn shaped(shape: Shape, spare: u8) -> Verdict
     ensures { λ r. ⌜ r ≡ firstOf (class shape ∷ range shape spare ∷ []) ⌝ }
 {
     if shape.class < 1 {
@@ -137,20 +136,6 @@ pub(crate) fn headed(trailer: Trailer, len: usize) -> Verdict
         return verdict;
     };
     if !placed(trailer, len) {
-        return Verdict::Refused(Refusal::Distance);
-    }
-    Verdict::Sound
-}
-
-// The refusals 2 to 4 of a rule by value.
-pub(crate) fn measured(shape: Shape, length: usize) -> Verdict
-    ensures { λ r. ⌜ r ≡ firstOf (class shape ∷ range shape 0 ∷ noted length ∷ []) ⌝ }
-{
-    let verdict = shaped(shape, 0);
-    let Verdict::Sound = verdict else {
-        return verdict;
-    };
-    if 1024 < length {
         return Verdict::Refused(Refusal::Distance);
     }
     Verdict::Sound
@@ -214,73 +199,4 @@ pub(crate) fn unread(refusal: Refusal) -> Reading
             pairs: [Pair { r: 0, p: 0 }; 8],
         },
     }
-}
-
-// Fills sixteen bytes with a pair: R, then P.
-fn put_pair(out: &mut [u8], pair: Pair)
-    requires { ⌜ length (now out) ≡ 16 ⌝ }
-    ensures { λ _. ⌜ now (out .exit) ≡ pairOut pair ⌝ }
-{
-    octets::put_number(&mut out[0..8], pair.r);
-    octets::put_number(&mut out[8..16], pair.p);
-}
-
-// Fills a slice with the first of some pairs.
-fn put_pairs(out: &mut [u8], pairs: [Pair; 8], count: u8)
-    requires { ⌜ (count ≤ 8) × (length (now out) ≡ 16 * count) ⌝ }
-    ensures { λ _. ⌜ now (out .exit) ≡ pairsOut pairs count ⌝ }
-{
-    let end = count as usize;
-    let mut i: usize = 0;
-    while i < end {
-        let pair = pairs[i];
-        let at = 16 * i;
-        put_pair(&mut out[at..at + 16], pair);
-        i += 1;
-    }
-}
-
-// Fills twelve bytes with the trailer of a shape.
-fn put_trailer(out: &mut [u8], shape: Shape)
-    requires { ⌜ length (now out) ≡ 12 ⌝ }
-    ensures { λ _. ⌜ now (out .exit) ≡ trailerOut shape ⌝ }
-{
-    let pairs = 12 + 16 * (shape.pairs as usize);
-    let table = pairs + (shape.states as usize) * (shape.events as usize);
-    let initial = shape.initial;
-    let bytes = [
-        shape.class,
-        shape.states,
-        shape.events,
-        shape.pairs,
-        initial.0,
-        0,
-        (table % 256) as u8,
-        (table / 256 % 256) as u8,
-        (pairs % 256) as u8,
-        (pairs / 256 % 256) as u8,
-        72,
-        82,
-    ];
-    octets::copy(&bytes, out);
-}
-
-// Fills a slice with the used pairs and the trailer.
-fn put_end(out: &mut [u8], shape: Shape, pairs: [Pair; 8])
-    requires { ⌜ (shape .pairs ≤ 8) × (length (now out) ≡ 16 * shape .pairs + 12) ⌝ }
-    ensures { λ _. ⌜ now (out .exit) ≡ pairsOut pairs (shape .pairs) ++ trailerOut shape ⌝ }
-{
-    let end = 16 * (shape.pairs as usize);
-    put_pairs(&mut out[0..end], pairs, shape.pairs);
-    put_trailer(&mut out[end..], shape);
-}
-
-// Fills a slice with all that stands after the note: the table, the used pairs and the trailer.
-pub(crate) fn fill(out: &mut [u8], table: &[u8], shape: Shape, pairs: [Pair; 8])
-    requires { ⌜ (shape .pairs ≤ 8) × (length (now out) ≡ length (now table) + (16 * shape .pairs + 12)) ⌝ }
-    ensures { λ _. ⌜ now (out .exit) ≡ now (table .entry) ++ (pairsOut pairs (shape .pairs) ++ trailerOut shape) ⌝ }
-{
-    let cells = table.len();
-    octets::copy(table, out);
-    put_end(&mut out[cells..], shape, pairs);
 }

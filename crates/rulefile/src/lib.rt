@@ -1,10 +1,9 @@
-// The rule file: checked, read and written (document 01, "Layouts" and "Refusal numbers").
+// The rule file: looked at and read (document 01, "Layouts" and "Refusal numbers"). specs/ has all of its layout, and what
+// reading and writing come to; the crate writing has the writer.
 ghost use mathlib.Core.Path.{_≡_};
 ghost use Rattle.rulefile.specs.Reading.{partsOf, readingOf};
-ghost use Rattle.rulefile.specs.Writing.{WritePromise};
 
-mod checks;
-mod layout;
+pub mod layout;
 
 use rule::Pair;
 use rule::Refusal;
@@ -99,31 +98,4 @@ pub fn read(file: &[u8]) -> Reading
             pairs,
         },
     }
-}
-
-// Writes a rule to the front of the output: the refusals 2, 3, 4 for the note, 5 to 10, then 16.
-pub fn write(rule: Rule, out: &mut [u8]) -> Written
-    ensures { λ r. ⌜ WritePromise rule (now (out .entry)) r (now (out .exit)) ⌝ }
-{
-    let shape = rule.shape;
-    let verdict = layout::measured(shape, rule.length);
-    if let Verdict::Refused(refusal) = verdict {
-        return Written::Refused(refusal);
-    }
-    let cells = (shape.states as usize) * (shape.events as usize);
-    let table = rule.table;
-    let pairs = rule.pairs;
-    let verdict = checks::checked(shape, &table[..cells], pairs);
-    if let Verdict::Refused(refusal) = verdict {
-        return Written::Refused(refusal);
-    }
-    let length = rule.length;
-    let size = length + cells + 16 * (shape.pairs as usize) + 12;
-    if out.len() < size {
-        return Written::Refused(Refusal::Room);
-    }
-    let note = rule.note;
-    octets::copy(&note[..length], out);
-    layout::fill(&mut out[length..size], &table[..cells], shape, pairs);
-    Written::Done(size)
 }

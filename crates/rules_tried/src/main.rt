@@ -1,30 +1,30 @@
 // Sound and damaged rule files, read and written: a line for each case says what came of it.
 // The file `stdout` has what document 01 says of each.
 mod files;
-mod reading;
+mod reads;
 mod said;
-mod writing;
+mod writes;
 
 fn main() {
-    reading::sound();
-    reading::edges();
-    reading::frame();
-    reading::class();
-    reading::range();
-    reading::count();
-    reading::distance();
-    reading::entry();
-    reading::member();
-    reading::excess();
-    reading::moves();
-    reading::first_move();
-    reading::stopping();
-    reading::order();
-    writing::room();
-    writing::unused();
-    writing::shape();
-    writing::note();
-    writing::table();
-    writing::pairs();
-    writing::stopping();
+    reads::sound();
+    reads::edges();
+    reads::frame();
+    reads::class();
+    reads::range();
+    reads::count();
+    reads::distance();
+    reads::entry();
+    reads::member();
+    reads::excess();
+    reads::moves();
+    reads::first_move();
+    reads::stopping();
+    reads::order();
+    writes::room();
+    writes::unused();
+    writes::shape();
+    writes::note();
+    writes::table();
+    writes::pairs();
+    writes::stopping();
 }

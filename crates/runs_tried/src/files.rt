@@ -28,7 +28,7 @@ pub(crate) fn front(bytes: &[u8], n: usize) -> &[u8] {
 
 // Makes the sheet of a file, and answers its length: 0 where the file is refused.
 pub(crate) fn made(file: &[u8], sheet: &mut [u8]) -> usize {
-    match sheet::make(file, sheet) {
+    match making::make(file, sheet) {
         Written::Done(n) => n,
         Written::Refused(refusal) => {
             said::refused(refusal);

@@ -125,7 +125,7 @@ pub(crate) fn no_memory() {
 
 fn make(name: &[u8], file: &[u8], out: &mut [u8]) {
     said::say(name);
-    match sheet::make(file, out) {
+    match making::make(file, out) {
         Written::Done(n) => {
             said::say(b"made,");
             said::codes(front(out, n));

@@ -22,11 +22,15 @@ headIn l = record { states = back l 6; events = back l 5; initial = stateNo (bac
 abbrev pub wholeSize : List ℕ → ℕ
 wholeSize l = back l 6 * back l 5 + 6
 
--- not 11: 6 bytes at least, the mark 77, N and K in range, initial state < N, distance and length both N*K + 6
+-- N and K in range, initial state < N
+unfoldable pub inRange : (n k initial : ℕ) → Bool
+inRange n k initial = leb 1 n && (leb n 64 && (leb 1 k && (leb k 32 && ltb initial n)))
+
+-- not 11: 6 bytes at least, the mark 77, N, K and the initial state in range, distance and length both N*K + 6
 unfoldable pub opens : List ℕ → Bool
 opens l =
-    leb 6 (length l) && (eqb (back l 3) 77 && (leb 1 (back l 6) && (leb (back l 6) 64 && (leb 1 (back l 5) && (leb (back l 5) 32
-    && (ltb (back l 4) (back l 6) && (eqb (back l 2 + 256 * back l 1) (wholeSize l) && eqb (length l) (wholeSize l))))))))
+    leb 6 (length l) && (eqb (back l 3) 77 && (inRange (back l 6) (back l 5) (back l 4)
+    && (eqb (back l 2 + 256 * back l 1) (wholeSize l) && eqb (length l) (wholeSize l))))
 
 unfoldable pub openedOf : List ℕ → Opened
 openedOf l = cond (opens l) (Sheet (headIn l)) Refused

@@ -1,15 +1,10 @@
-// The monitor sheet: made from a rule file, and opened (document 01, "Layouts").
+// The monitor sheet: opened (document 01, "Layouts"). specs/ has all of its layout, and what opening and making one come to; the
+// crate making makes it.
 ghost use mathlib.Core.Path.{_≡_};
-ghost use Rattle.sheet.specs.Making.{MakePromise};
-ghost use Rattle.sheet.specs.Opening.{openedOf};
-
-mod cells;
-
-use rule::Refusal;
+ghost use Prim.Native.Nat.{_+_, _*_};
+ghost use Rattle.sheet.specs.Opening.{inRange, openedOf};
 use rule::Rule;
 use rule::StateNo;
-use rule::Verdict;
-use rulefile::Written;
 
 // What an opened sheet says of itself: N, K and the initial state.
 pub struct Head {
@@ -22,6 +17,39 @@ pub struct Head {
 pub enum Opened {
     Sheet(Head),
     Refused,
+}
+
+// Whether N and K are in range, and the initial state is one of the N.
+fn in_range(states: u8, events: u8, initial: u8) -> bool
+    ensures { λ r. ⌜ r ≡ inRange states events initial ⌝ }
+{
+    if states < 1 {
+        return false;
+    }
+    if Rule::STATES < states {
+        return false;
+    }
+    if events < 1 {
+        return false;
+    }
+    if Rule::EVENTS < events {
+        return false;
+    }
+    initial < states
+}
+
+// The length of a sheet of so many states and events: its cells, and six bytes.
+fn size(states: u8, events: u8) -> usize
+    ensures { λ r. ⌜ r ≡ states * events + 6 ⌝ }
+{
+    states as usize * events as usize + 6
+}
+
+// The number of two bytes, the lower first.
+fn word(low: u8, high: u8) -> usize
+    ensures { λ r. ⌜ r ≡ low + 256 * high ⌝ }
+{
+    low as usize + 256 * (high as usize)
 }
 
 // Opens a sheet: its last six bytes are read and held to their rules.
@@ -38,24 +66,11 @@ pub fn open(sheet: &[u8]) -> Opened
     let states = sheet[len - 6];
     let events = sheet[len - 5];
     let initial = sheet[len - 4];
-    if states < 1 {
+    if !in_range(states, events, initial) {
         return Opened::Refused;
     }
-    if Rule::STATES < states {
-        return Opened::Refused;
-    }
-    if events < 1 {
-        return Opened::Refused;
-    }
-    if Rule::EVENTS < events {
-        return Opened::Refused;
-    }
-    if states <= initial {
-        return Opened::Refused;
-    }
-    let whole = states as usize * events as usize + 6;
-    let distance = sheet[len - 2] as usize + 256 * (sheet[len - 1] as usize);
-    if distance != whole {
+    let whole = size(states, events);
+    if word(sheet[len - 2], sheet[len - 1]) != whole {
         return Opened::Refused;
     }
     if len != whole {
@@ -66,25 +81,4 @@ pub fn open(sheet: &[u8]) -> Opened
         events,
         initial: StateNo(initial),
     })
-}
-
-// Makes the sheet of a rule file at the front of the output: the refusals 1 to 10, then 16.
-pub fn make(file: &[u8], out: &mut [u8]) -> Written
-    ensures { λ r. ⌜ MakePromise (now (file .entry)) (now (out .entry)) r (now (out .exit)) ⌝ }
-{
-    let parts = rulefile::parts(file);
-    let verdict = parts.verdict;
-    if let Verdict::Refused(refusal) = verdict {
-        return Written::Refused(refusal);
-    }
-    let shape = parts.shape;
-    let pairs = parts.pairs;
-    let start = parts.start;
-    let end = parts.end;
-    let size = end - start + 6;
-    if out.len() < size {
-        return Written::Refused(Refusal::Room);
-    }
-    cells::put(&mut out[..size], &file[start..end], shape, pairs);
-    Written::Done(size)
 }

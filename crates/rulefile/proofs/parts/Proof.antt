@@ -11,6 +11,7 @@ use Rattle.octets.proofs.ListLaws.{part-length}
 use Rattle.rule.specs.Drawing.{body}
 use Rattle.rule.specs.Refusals.{firstOf, conditions}
 use Rattle.rule.specs.declared.Pair.{Pair}
+use Rattle.checks.proofs.HeldLaws.{in-range}
 use Rattle.rulefile.specs.Layout.{trailerIn}
 use Rattle.rulefile.proofs.SoundLaws.{Framed, framed-says, Headed}
 use Rattle.rulefile.proofs.ReadingLaws.{cut, cut-order, tableBy, pairsBy, pairs-long, parts-refused, frame-wrong, trailer-is, head-wrong, headed, body-told, parts-sound}
@@ -18,7 +19,7 @@ use Rattle.rulefile.proofs.parts.Statement.{statement}
 use Rattle.rulefile.proofs.parts.Tie as tie
 use Rattle.rulefile.proofs.parts.Reads as reads
 use Rattle.rulefile.proofs.parts.Lts as lts
-use Rattle.rulefile.proofs.checks.checked.Reads as checked-reads
+use Rattle.checks.proofs.checked.Reads as checked-reads
 use Rattle.rulefile.proofs.layout.framed.Reads as framed-reads
 use Rattle.rulefile.proofs.layout.headed.Reads as headed-reads
 use Rattle.rulefile.proofs.layout.pairs_of.Reads as pairs-of-reads
@@ -117,7 +118,7 @@ part-checked-end : tie.Need-part-checked-end
 part-checked-end c = search needs
 
 checked-requires : tie.Need-checked-requires
-checked-requires c κs = let g = good (c .before .before .before .before .before .before) .ranged in (g .states-in, g .some-pairs, g .pairs-in)
+checked-requires c κs = search needs
 
 -- what the checks were made of is what the file is cut into
 told : (c : tie.After-checked) → c .checked .result
@@ -125,7 +126,9 @@ told : (c : tie.After-checked) → c .checked .result
 told c =
     let f = c .before .before .before .before .before .before .before .before .before .before .before .before .before .before .before .args .file .now in
     let t = c .before .before .before .before .before .before .before .before .before .before .trailer-of .result in
-    c .checked .ensures ∙ ap (λ (ps : List Pair). firstOf (conditions (body (t .shape) (tableBy f t) ps))) (c .before .before .pairs-of .ensures)
+    let g = good (c .before .before .before .before .before .before .before) .ranged in
+    c .checked .ensures ∙ in-range (t .shape) (tableBy f t) (c .before .before .pairs-of .result) (g .states-in) (g .some-pairs) (g .pairs-in)
+    ∙ ap (λ (ps : List Pair). firstOf (conditions (body (t .shape) (tableBy f t) ps))) (c .before .before .pairs-of .ensures)
 
 enum-known-verdict-2 : tie.Need-enum-known-verdict-2
 enum-known-verdict-2 c = search needs

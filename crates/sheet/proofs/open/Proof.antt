@@ -1,6 +1,6 @@
 -- `open` meets its contract: each refusal is a fault of the sheet, and with none of them the sheet is good. Assumes nothing.
 use borrow.Author.Needs.{needs}
-use Rattle.sheet.proofs.OpeningLaws.{faults, good-opened, cells-fit, sheet-fits, byte-fits, high-fits, word-fits}
+use Rattle.sheet.proofs.OpeningLaws.{faults, opened-as}
 use Rattle.sheet.proofs.open.Statement.{statement}
 use Rattle.sheet.proofs.open.Tie as tie
 
@@ -31,8 +31,29 @@ sub-initial c = search needs
 shared-slice-read-initial : tie.Need-shared-slice-read-initial
 shared-slice-read-initial c = search needs
 
+in-range-requires : tie.Need-in-range-requires
+in-range-requires c κs = search needs
+
 returns-3 : tie.Need-returns-3
 returns-3 c = search (needs, faults)
+
+size-requires : tie.Need-size-requires
+size-requires c κs = search needs
+
+sub-word : tie.Need-sub-word
+sub-word c = search needs
+
+shared-slice-read-word : tie.Need-shared-slice-read-word
+shared-slice-read-word c = search needs
+
+sub-word-2 : tie.Need-sub-word-2
+sub-word-2 c = search needs
+
+shared-slice-read-word-2 : tie.Need-shared-slice-read-word-2
+shared-slice-read-word-2 c = search needs
+
+word-requires : tie.Need-word-requires
+word-requires c κs = search needs
 
 returns-4 : tie.Need-returns-4
 returns-4 c = search (needs, faults)
@@ -41,67 +62,7 @@ returns-5 : tie.Need-returns-5
 returns-5 c = search (needs, faults)
 
 returns-6 : tie.Need-returns-6
-returns-6 c = search (needs, faults)
-
-returns-7 : tie.Need-returns-7
-returns-7 c = search (needs, faults)
-
-cast-whole : tie.Need-cast-whole
-cast-whole c = search needs
-
-cast-whole-2 : tie.Need-cast-whole-2
-cast-whole-2 c = search needs
-
-mul-whole : tie.Need-mul-whole
-mul-whole c = search (needs, cells-fit)
-
-add-whole : tie.Need-add-whole
-add-whole c = search (needs, sheet-fits)
-
-sub-distance : tie.Need-sub-distance
-sub-distance c = search needs
-
-shared-slice-read-distance : tie.Need-shared-slice-read-distance
-shared-slice-read-distance c = search needs
-
-cast-distance : tie.Need-cast-distance
-cast-distance c = byte-fits (c .shared-slice-known5 .given _)
-
-sub-distance-2 : tie.Need-sub-distance-2
-sub-distance-2 c = search needs
-
-shared-slice-read-distance-2 : tie.Need-shared-slice-read-distance-2
-shared-slice-read-distance-2 c = search needs
-
-cast-distance-2 : tie.Need-cast-distance-2
-cast-distance-2 c = byte-fits (c .shared-slice-known6 .given _)
-
-mul-distance : tie.Need-mul-distance
-mul-distance c = high-fits (c .shared-slice-known6 .given _)
-
-add-distance : tie.Need-add-distance
-add-distance c = word-fits (c .shared-slice-known6 .given _) (c .shared-slice-known6 .given _)
-
-returns-8 : tie.Need-returns-8
-returns-8 c = search (needs, faults)
-
-returns-9 : tie.Need-returns-9
-returns-9 c = search (needs, faults)
-
-returns-10 : tie.Need-returns-10
-returns-10 c =
-    good-opened
-    (record {
-      long = search needs;
-      marked = search needs;
-      some-states = search needs;
-      few-states = search needs;
-      some-events = search needs;
-      few-events = search needs;
-      initial-in = search needs;
-      distance = search needs;
-      size = search needs;
-    })
+returns-6 c = search (needs, opened-as)
 
 pub open-spec : {M : Type 1} → statement M
 open-spec =
@@ -116,23 +77,14 @@ open-spec =
     shared-slice-read-events
     sub-initial
     shared-slice-read-initial
+    in-range-requires
     returns-3
+    size-requires
+    sub-word
+    shared-slice-read-word
+    sub-word-2
+    shared-slice-read-word-2
+    word-requires
     returns-4
     returns-5
-    returns-6
-    returns-7
-    cast-whole
-    cast-whole-2
-    mul-whole
-    add-whole
-    sub-distance
-    shared-slice-read-distance
-    cast-distance
-    sub-distance-2
-    shared-slice-read-distance-2
-    cast-distance-2
-    mul-distance
-    add-distance
-    returns-8
-    returns-9
-    returns-10)
+    returns-6)

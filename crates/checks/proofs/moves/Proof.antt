@@ -1,0 +1,108 @@
+-- `checks::moves` meets its contract: the cells passed are sound, in this row and in the rows before.
+-- Assumes nothing.
+use borrow.Author.Needs.{needs}
+use Prim.Native.Nat.{_-_, _≤_}
+use mathlib.Core.Path.{_≡_, refl}
+use native.Mathlib.Omega.{arith}
+use lib.ListN.{take}
+use Rattle.rule.specs.Refusals.{firstBelow, firstCell}
+use Rattle.rule.specs.declared.Verdict.the-variants.{Sound}
+use Rattle.rule.proofs.RefusalLaws.{below-none, cells-none, cells-more}
+use Rattle.checks.proofs.CheckLaws.{moveOf, move-more, move-hit, moves-all, moves-four}
+use Rattle.checks.proofs.moves.Statement.{statement}
+use Rattle.checks.proofs.moves.Tie as tie
+
+abbrev Inv-loop : tie.InvT-loop
+Inv-loop shape table pairs states events verdict₀ s set e₀ verdict e = (e ≤ events) × (verdict ≡ Sound) × (firstBelow (moveOf (shape .class) (take (shape .pairs) pairs) table events s) e ≡ Sound)
+
+abbrev μ-loop : tie.MeasureT-loop
+μ-loop shape table pairs states events verdict₀ s set e₀ verdict e = events - e
+
+abbrev Inv-rows : tie.InvT-rows
+Inv-rows shape table pairs states events verdict₀ s₀ verdict s = (s ≤ states) × (verdict ≡ Sound) × (firstCell (moveOf (shape .class) (take (shape .pairs) pairs) table events) s events ≡ Sound)
+
+abbrev μ-rows : tie.MeasureT-rows
+μ-rows shape table pairs states events verdict₀ s₀ verdict s = states - s
+
+returns : tie.Need-returns Inv-loop μ-loop Inv-rows μ-rows
+returns c = search (needs, moves-four)
+
+rows-holds : tie.Need-rows-holds Inv-loop μ-loop Inv-rows μ-rows
+rows-holds c = (omega arith, refl, cells-none _ _)
+
+banned-requires : tie.Need-banned-requires Inv-loop μ-loop Inv-rows μ-rows
+banned-requires c κs = search needs
+
+loop-holds : tie.Need-loop-holds Inv-loop μ-loop Inv-rows μ-rows
+loop-holds c = (omega arith, c .before .before .rows .inv .1, below-none _)
+
+next-requires : tie.Need-next-requires Inv-loop μ-loop Inv-rows μ-rows
+next-requires c κs = search needs
+
+contains-requires : tie.Need-contains-requires Inv-loop μ-loop Inv-rows μ-rows
+contains-requires c κs = search needs
+
+add-e : tie.Need-add-e Inv-loop μ-loop Inv-rows μ-rows
+add-e c = omega arith
+
+loop-less : tie.Need-loop-less Inv-loop μ-loop Inv-rows μ-rows
+loop-less c = omega arith
+
+loop-again : tie.Need-loop-again Inv-loop μ-loop Inv-rows μ-rows
+loop-again c =
+    let l = c .before .before .before .before .loop in
+    let r = c .before .before .before .before .before .before .before .rows in
+    let i = c .before .before .before .before .before .before .before .before .before .before .before in (
+      omega arith,
+      l .inv .1,
+      move-more (i .args .shape) (i .args .table .now) (i .args .pairs) (i .pre .0) (i .pre .2) (r .s) (l .e)
+          (c .before .before .before .before .before .before .rows-test .taken) (c .before .before .before .loop-test .taken) (c .before .before .before .before .before .banned .result) (c .before .before .before .before .before .banned .ensures)
+          (c .before .before .next .ensures) (c .before .contains .ensures) (l .inv .2) (c .if2 .left),
+    )
+
+add-s : tie.Need-add-s Inv-loop μ-loop Inv-rows μ-rows
+add-s c = omega arith
+
+rows-less : tie.Need-rows-less Inv-loop μ-loop Inv-rows μ-rows
+rows-less c = omega arith
+
+rows-again : tie.Need-rows-again Inv-loop μ-loop Inv-rows μ-rows
+rows-again c =
+    let l = c .before .loop in
+    let r = c .before .before .before .before .rows in
+    (omega arith, l .inv .1, cells-more _ _ (r .s) (l .e) (r .inv .2) (l .inv .2) (l .inv .0) (c .loop-test .left))
+
+returns-2 : tie.Need-returns-2 Inv-loop μ-loop Inv-rows μ-rows
+returns-2 c = search (needs, moves-all)
+
+returns-3 : tie.Need-returns-3 Inv-loop μ-loop Inv-rows μ-rows
+returns-3 c =
+    let l = c .before .before .before .before .loop in
+    let r = c .before .before .before .before .before .before .before .rows in
+    let i = c .before .before .before .before .before .before .before .before .before .before .before in
+    move-hit (i .args .shape) (i .args .table .now) (i .args .pairs) (i .pre .0) (i .pre .2) (r .s) (l .e)
+    (c .before .before .before .before .before .before .rows-test .taken) (c .before .before .before .loop-test .taken) (c .before .before .before .before .before .banned .result) (c .before .before .before .before .before .banned .ensures)
+    (c .before .before .next .ensures) (c .before .contains .ensures) (r .inv .2) (l .inv .2) (c .if2 .taken)
+
+pub moves-spec : {M : Type 1} → statement M
+moves-spec =
+    tie.close
+    (tie.spec
+    Inv-loop
+    μ-loop
+    Inv-rows
+    μ-rows
+    returns
+    rows-holds
+    banned-requires
+    loop-holds
+    next-requires
+    contains-requires
+    add-e
+    loop-less
+    loop-again
+    add-s
+    rows-less
+    rows-again
+    returns-2
+    returns-3)

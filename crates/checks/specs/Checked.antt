@@ -1,0 +1,20 @@
+-- What the checks 5 to 10 come to, of any shape, table and pairs.
+-- Assumes nothing.
+use Prim.Native.Nat.{ℕ}
+use mathlib.Core.Bool.{Bool, not, _&&_}
+use mathlib.Core.List.{List, _∷_}
+use lib.Dec.{leb}
+use Rattle.rule.specs.Drawing.{body}
+use Rattle.rule.specs.Refusals.{refuseIf, firstOf, conditions}
+use Rattle.rule.specs.declared.Pair.{Pair}
+use Rattle.rule.specs.declared.Shape.{Shape}
+use Rattle.rule.specs.declared.Refusal.the-variants.{Range}
+use Rattle.rule.specs.declared.Verdict.{Verdict}
+
+-- a set can hold the states, and the array the pairs, of which there is one at least
+unfoldable pub holds : Shape → Bool
+holds s = leb (s .states) 64 && (leb 1 (s .pairs) && leb (s .pairs) 8)
+
+-- 3 of a shape that cannot be held, and then the conditions 5 to 10 in order
+unfoldable pub checkedOf : Shape → List ℕ → List Pair → Verdict
+checkedOf s table ps = firstOf (refuseIf (not (holds s)) Range ∷ conditions (body s table ps))

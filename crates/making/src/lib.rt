@@ -1,0 +1,29 @@
+// The monitor sheet made from a rule file (document 01, "Layouts").
+ghost use Rattle.sheet.specs.Making.{MakePromise};
+
+mod cells;
+
+use rule::Refusal;
+use rule::Verdict;
+use rulefile::Written;
+
+// Makes the sheet of a rule file at the front of the output: the refusals 1 to 10, then 16.
+pub fn make(file: &[u8], out: &mut [u8]) -> Written
+    ensures { λ r. ⌜ MakePromise (now (file .entry)) (now (out .entry)) r (now (out .exit)) ⌝ }
+{
+    let parts = rulefile::parts(file);
+    let verdict = parts.verdict;
+    if let Verdict::Refused(refusal) = verdict {
+        return Written::Refused(refusal);
+    }
+    let shape = parts.shape;
+    let pairs = parts.pairs;
+    let start = parts.start;
+    let end = parts.end;
+    let size = end - start + 6;
+    if out.len() < size {
+        return Written::Refused(Refusal::Room);
+    }
+    cells::put(&mut out[..size], &file[start..end], shape, pairs);
+    Written::Done(size)
+}

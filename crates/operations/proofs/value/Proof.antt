@@ -1,0 +1,29 @@
+-- `rule::operations::value` meets its contract: one law of `ValueLaws` for each way through it.
+-- Assumes nothing.
+use borrow.Author.Needs.{needs}
+use Rattle.operations.proofs.ValueLaws.{value-P, value-R, value-halt, value-store}
+use Rattle.operations.proofs.value.Statement.{statement}
+use Rattle.operations.proofs.value.Tie as tie
+
+contains-requires : tie.Need-contains-requires
+contains-requires c κs = search needs
+
+returns : tie.Need-returns
+returns c = search (needs, value-P)
+
+contains-requires-2 : tie.Need-contains-requires-2
+contains-requires-2 c κs = search needs
+
+returns-2 : tie.Need-returns-2
+returns-2 c = search (needs, value-R)
+
+returns-3 : tie.Need-returns-3
+returns-3 c = search (needs, value-halt)
+
+returns-4 : tie.Need-returns-4
+returns-4 c = search (needs, value-store, c .if3 .left)
+
+pub value-spec : {M : Type 1} → statement M
+value-spec =
+    tie.close
+    (tie.spec contains-requires returns contains-requires-2 returns-2 returns-3 returns-4)

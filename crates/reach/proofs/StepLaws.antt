@@ -1,0 +1,183 @@
+-- What the loops and calls of src/lib.rt build, one step at a time.
+-- Assumes nothing.
+use mathlib.Core.Path.{_≡_, refl, sym, ap, _∙_}
+use mathlib.Core.Bool.{true, false}
+use mathlib.Core.List.{List}
+use Prim.Native.Nat.{ℕ, zero, suc, _+_, _-_, _*_, _/_, _^_, _≤_, _<_}
+use native.Mathlib.Omega.{arith}
+use native.Mathlib.Nat.{mul-le-mul, add-zero, add-suc}
+use native.Mathlib.Numerals.{add-one}
+use lib.ListN.{length, getD, set, List·getD-eq-default}
+use lib.Seq.{set-out}
+use lib.Bits.{bitXor}
+use lib.Count.{trailingZeros}
+use lib.Pow.{shr-shr, shr-le}
+use mir.Syntax.{w8, w64}
+use mir.Val.{Fits}
+use Rattle.rule.specs.Sets.{has, including}
+use Rattle.rule.specs.Reach.{target, withMoves, movedBelow, movedSet, spread, reachedWithin, reachedSets}
+use Rattle.rule.proofs.SetLaws.{has-none, has-past, has-shifted, lowest-in, lowest-first, below-or}
+use Rattle.rule.proofs.MoveLaws.{moved-fresh}
+use Rattle.rule.proofs.BoolLaws.{clash}
+
+-- the place of a cell is a small number
+
+place : (s k : ℕ) → s < 256 → k < 256 → s * k ≤ 65025
+place s k hs hk = mul-le-mul {n₂ = 255} {m₂ = 255} (omega arith) (omega arith)
+
+pub row-fits : (s k : ℕ) → s < 256 → k < 256 → Fits w64 (s * k)
+row-fits s k hs hk = omega (arith, place s k hs hk)
+
+pub place-fits : (s k e : ℕ) → s < 256 → k < 256 → e < 256 → Fits w64 (s * k + e)
+place-fits s k e hs hk he = omega (arith, place s k hs hk)
+
+module _ (table : List ℕ) (k : ℕ) where
+  -- past the table every move leads to state 0
+  pub target-past : (s e : ℕ) → length table ≤ s * k + e → 0 ≡ target table k s e
+  unfolding target
+  target-past s e h = sym (List·getD-eq-default table 0 h)
+
+  pub moves-none : (s x : ℕ) → x ≡ withMoves table k s x 0
+  unfolding withMoves
+  moves-none s x = refl
+
+  pub moves-more : (s x e out t r : ℕ) → out ≡ withMoves table k s x e → t ≡ target table k s e → r ≡ including out t → r ≡ withMoves table k s x (e + 1)
+  unfolding withMoves
+  moves-more s x e out t r io it ir = rw add-one (cc)
+
+  -- the same of a cell that is read, in a row by its place
+  pub moves-read : (s x e out row r : ℕ) → out ≡ withMoves table k s x e → row ≡ s * k → r ≡ including out (getD table (row + e) 0) → r ≡ withMoves table k s x (e + 1)
+  unfolding target
+  moves-read s x e out row r io q ir = moves-more s x e out (getD table (row + e) 0) r io (rw q) ir
+
+  -- all events of a row
+  pub moves-all : (s x e out : ℕ) → e ≤ k → k ≤ e → out ≡ withMoves table k s x e → out ≡ withMoves table k s x k
+  moves-all s x e out le ge io = let q : e ≡ k = omega arith in cc
+
+-- what is left of x after the states below s, and its lowest member
+module _ (x s rest : ℕ) (ir : rest ≡ x / 2 ^ s) where
+  rest-in : (i : ℕ) → has rest i ≡ has x (s + i)
+  rest-in i = rw ir (has-shifted s x i)
+
+  lowest-has : x < 2 ^ 64 → (rest ≡ 0 → ⊥) → has x (s + trailingZeros 64 rest) ≡ true
+  lowest-has h d = sym (rest-in (trailingZeros 64 rest)) ∙ lowest-in 64 rest (omega (arith, shr-le x s)) d
+
+  lowest-lt : x < 2 ^ 64 → (rest ≡ 0 → ⊥) → s + trailingZeros 64 rest < 64
+  lowest-lt h d =
+      below-or (s + trailingZeros 64 rest) 64
+      (λ l. l)
+      (λ l. clash (lowest-has h d) (has-past 64 x (s + trailingZeros 64 rest) h l))
+
+  -- it fits, and so does what comes after it
+  pub lowest-fits : x < 2 ^ 64 → (rest ≡ 0 → ⊥) → Fits w8 (s + trailingZeros 64 rest)
+  lowest-fits h d = omega (arith, lowest-lt h d)
+
+  pub lowest-shift : x < 2 ^ 64 → (rest ≡ 0 → ⊥) → trailingZeros 64 rest < 64
+  lowest-shift h d = omega (arith, lowest-lt h d)
+
+  pub after-fits : x < 2 ^ 64 → (rest ≡ 0 → ⊥) → Fits w8 (s + trailingZeros 64 rest + 1)
+  after-fits h d = omega (arith, lowest-lt h d)
+
+  pub after-le : x < 2 ^ 64 → (rest ≡ 0 → ⊥) → s + trailingZeros 64 rest + 1 ≤ 64
+  after-le h d = omega (arith, lowest-lt h d)
+
+  pub after-less : x < 2 ^ 64 → (rest ≡ 0 → ⊥) → 64 - (s + trailingZeros 64 rest + 1) < 64 - s
+  after-less h d = omega (arith, lowest-lt h d)
+
+  pub rest-more : (g : ℕ) → rest / 2 ^ g / 2 ^ 1 ≡ x / 2 ^ (s + g + 1)
+  rest-more g = rw (ir, shr-shr x s g, shr-shr x (s + g) 1)
+
+-- the moves from the members of x, added to y; the states below s are done, and `rest` has the others
+module _ (table : List ℕ) (k x y : ℕ) where
+  pub below-none : y ≡ movedBelow table k x y 0
+  unfolding movedBelow
+  below-none = refl
+
+  -- states that are no members add nothing
+  below-skips : (s j : ℕ) → ((i : ℕ) → i < j → has x (s + i) ≡ false) → movedBelow table k x y (s + j) ≡ movedBelow table k x y s
+  unfolding movedBelow
+  below-skips s zero none = rw add-zero
+  below-skips s (suc j) none = rw (add-suc, none j (omega arith)) (below-skips s j (λ i l. none i (omega arith)))
+
+  -- none is left, or none that is one of the n states
+  module _ (s rest out : ℕ) (ir : rest ≡ x / 2 ^ s) (io : out ≡ movedBelow table k x y s) where
+    below-to : (n : ℕ) → s ≤ n → ((i : ℕ) → i < n - s → has rest i ≡ false) → out ≡ movedBelow table k x y n
+    below-to n l none =
+        let e : s + (n - s) ≡ n = omega arith in
+        io ∙ sym (rw e at (below-skips s (n - s) (λ i h. sym (rest-in x s rest ir i) ∙ none i h)))
+
+    pub below-end : (n : ℕ) → rest ≡ 0 → s ≤ n → out ≡ movedBelow table k x y n
+    below-end n z l = below-to n l (λ i h. rw z (has-none i))
+
+    pub below-stop : (n : ℕ) → n ≤ s + trailingZeros 64 rest → s ≤ n → out ≡ movedBelow table k x y n
+    below-stop n g l = below-to n l (λ i h. lowest-first 64 rest i (omega arith))
+
+    -- the moves from the lowest member left
+    pub below-more : (r : ℕ) → x < 2 ^ 64 → (rest ≡ 0 → ⊥) → r ≡ withMoves table k (s + trailingZeros 64 rest) out k → r ≡ movedBelow table k x y (s + trailingZeros 64 rest + 1)
+    unfolding movedBelow
+    below-more r h d is =
+        rw (add-one, lowest-has x s rest ir h d)
+        (is ∙ ap (λ z. withMoves table k (s + trailingZeros 64 rest) z k) (below-stop (s + trailingZeros 64 rest) (omega arith) (omega arith)))
+
+module _ (table : List ℕ) (n k : ℕ) where
+  -- a move first or a move last
+  pub spread-first : (x m : ℕ) → spread table n k (movedSet table n k x) m ≡ spread table n k x (suc m)
+  unfolding spread
+  spread-first x zero = refl
+  spread-first x (suc m) = ap (movedSet table n k) (spread-first x m)
+
+  -- where a move adds nothing, no further one does
+  pub spread-still : (x m : ℕ) → movedSet table n k x ≡ x → spread table n k x m ≡ x
+  unfolding spread
+  spread-still x zero h = refl
+  spread-still x (suc m) h = ap (movedSet table n k) (spread-still x m h) ∙ h
+
+  pub spread-none : (x m : ℕ) → m ≡ 0 → x ≡ spread table n k x m
+  unfolding spread
+  spread-none x m e = rw e
+
+  -- only the moves from the members f of x can lead out of x
+  module _ (x f y : ℕ) (is : y ≡ movedBelow table k f x n) (only : movedBelow table k f x n ≡ movedSet table n k x) where
+    pub spread-stops : (m : ℕ) → y ≡ x → x ≡ spread table n k x m
+    spread-stops m same = sym (spread-still x m (sym only ∙ sym is ∙ same))
+
+    pub spread-more : (m r : ℕ) → (m ≡ 0 → ⊥) → r ≡ spread table n k y (m - 1) → r ≡ spread table n k x m
+    spread-more m r d ir =
+        let e : suc (m - 1) ≡ m = omega arith in
+        ir ∙ ap (λ z. spread table n k z (m - 1)) (is ∙ only) ∙ rw e at (spread-first x (m - 1))
+
+    -- then only those from the new members can lead out of y
+    pub only-fresh : x < 2 ^ 64 → movedBelow table k (bitXor y x) y n ≡ movedSet table n k y
+    only-fresh h = rw (is ∙ only) (moved-fresh table n k x h)
+
+  pub only-all : (x : ℕ) → movedBelow table k x x n ≡ movedSet table n k x
+  unfolding movedSet
+  only-all x = refl
+
+  pub within : (q m x r : ℕ) → x ≡ including 0 q → r ≡ spread table n k x m → r ≡ reachedWithin table n k q m
+  unfolding reachedWithin
+  within q m x r ix ir = cc
+
+  pub within-all : (q m r : ℕ) → m ≡ n - 1 → r ≡ reachedWithin table n k q m → r ≡ reachedWithin table n k q (n - 1)
+  within-all q m r e ir = cc
+
+  pub within-none : (q m r : ℕ) → n ≤ 0 → m ≡ 0 → r ≡ reachedWithin table n k q m → r ≡ reachedWithin table n k q (n - 1)
+  within-none q m r hn hm ir = within-all q m r (omega arith) ir
+
+  pub sets-none : (sets : List ℕ) → sets ≡ reachedSets table n k sets 0
+  unfolding reachedSets
+  sets-none sets = refl
+
+  pub sets-more : (sets : List ℕ) (s x : ℕ) (l r : List ℕ) → l ≡ reachedSets table n k sets s → x ≡ reachedWithin table n k s (n - 1) → r ≡ set l s x → r ≡ reachedSets table n k sets (s + 1)
+  unfolding reachedSets
+  sets-more sets s x l r il ix ir = rw add-one (cc)
+
+  -- a state past the array
+  pub sets-past : (sets : List ℕ) (s i : ℕ) (l r : List ℕ) → l ≡ reachedSets table n k sets s → length l ≡ i → i ≤ s → r ≡ l → r ≡ reachedSets table n k sets (s + 1)
+  unfolding reachedSets
+  sets-past sets s i l r il len h ir =
+      let same : set l s (reachedWithin table n k s (n - 1)) ≡ l = set-out l s (reachedWithin table n k s (n - 1)) (omega arith) in
+      rw add-one (cc)
+
+  pub sets-all : (sets : List ℕ) (s : ℕ) (l : List ℕ) → l ≡ reachedSets table n k sets s → s ≤ n → n ≤ s → l ≡ reachedSets table n k sets n
+  sets-all sets s l il le ge = let q : s ≡ n = omega arith in il ∙ ap (reachedSets table n k sets) q

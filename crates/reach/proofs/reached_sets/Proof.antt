@@ -1,0 +1,64 @@
+-- `rule::reach::reached_sets` meets its contract; a state past the array changes nothing, in the code and in the definition.
+-- Assumes nothing.
+use borrow.Author.Needs.{needs}
+use mathlib.Core.Path.{_≡_}
+use mathlib.Core.Logic.{⊎-elim}
+use Prim.Native.Nat.{_≤_, _-_}
+use lib.ListN.{length}
+use Rattle.rule.specs.Reach.{reachedSets}
+use Rattle.reach.proofs.StepLaws.{sets-none, sets-more, sets-past, sets-all}
+use Rattle.reach.proofs.reached_sets.Statement.{statement}
+use Rattle.reach.proofs.reached_sets.Tie as tie
+
+abbrev Inv-loop : tie.InvT-loop
+Inv-loop table states events sets₀ s₀ sets s = (s ≤ states) × (sets ≡ reachedSets table states events sets₀ s) × (length sets ≡ 64)
+
+abbrev μ-loop : tie.MeasureT-loop
+μ-loop table states events sets₀ s₀ sets s = states - s
+
+loop-holds : tie.Need-loop-holds Inv-loop μ-loop
+loop-holds c = (search needs, sets-none _ _ _ _, search needs)
+
+cast-at : tie.Need-cast-at Inv-loop μ-loop
+cast-at c = search needs
+
+reached-requires : tie.Need-reached-requires Inv-loop μ-loop
+reached-requires c κs = search needs
+
+mul-sets : tie.Need-mul-sets Inv-loop μ-loop
+mul-sets c = search needs
+
+array-write-sets : tie.Need-array-write-sets Inv-loop μ-loop
+array-write-sets c = search needs
+
+add-s : tie.Need-add-s Inv-loop μ-loop
+add-s c = search needs
+
+loop-less : tie.Need-loop-less Inv-loop μ-loop
+loop-less c = search needs
+
+loop-again : tie.Need-loop-again Inv-loop μ-loop
+loop-again c = (
+  search needs,
+  ⊎-elim (λ w. search (needs, sets-more)) (λ w. search (needs, sets-past)) (c .if1 .came),
+  ⊎-elim (λ w. rw (w .2) (search needs)) (λ w. rw (w .1) (search needs)) (c .if1 .came),
+)
+
+returns : tie.Need-returns Inv-loop μ-loop
+returns c = search (needs, sets-all)
+
+pub reached-sets-spec : {M : Type 1} → statement M
+reached-sets-spec =
+    tie.close
+    (tie.spec
+    Inv-loop
+    μ-loop
+    loop-holds
+    cast-at
+    reached-requires
+    mul-sets
+    array-write-sets
+    add-s
+    loop-less
+    loop-again
+    returns)

@@ -1,0 +1,108 @@
+-- `rule::reach::with_moves` meets its contract: both loops build the definition one event at a time.
+-- Assumes nothing.
+use borrow.Author.Needs.{needs}
+use mathlib.Core.Path.{_≡_, refl}
+use Prim.Native.Nat.{ℕ, _≤_, _+_, _-_, _*_}
+use native.Mathlib.Omega.{arith}
+use lib.ListN.{length}
+use Rattle.rule.specs.Reach.{withMoves}
+use Rattle.reach.proofs.StepLaws.{row-fits, place-fits, moves-none, moves-more, moves-read, moves-all}
+use Rattle.reach.proofs.with_moves.Statement.{statement}
+use Rattle.reach.proofs.with_moves.Tie as tie
+
+abbrev Inv-loop : tie.InvT-loop
+Inv-loop table events set row end out₀ e₀ out e = (e ≤ events) × (row + events ≤ length table) × ((s : ℕ) → row ≡ s * events → out ≡ withMoves table events s set e)
+
+abbrev μ-loop : tie.MeasureT-loop
+μ-loop table events set row end out₀ e₀ out e = events - e
+
+abbrev Inv-loop2 : tie.InvT-loop2
+Inv-loop2 table events s set row end out₀ e₀ out e = (e ≤ events) × (out ≡ withMoves table events (s .0) set e)
+
+abbrev μ-loop2 : tie.MeasureT-loop2
+μ-loop2 table events s set row end out₀ e₀ out e = events - e
+
+cast-row : tie.Need-cast-row Inv-loop μ-loop Inv-loop2 μ-loop2
+cast-row c = search needs
+
+mul-row : tie.Need-mul-row Inv-loop μ-loop Inv-loop2 μ-loop2
+mul-row c = search (needs, row-fits)
+
+add-end : tie.Need-add-end Inv-loop μ-loop Inv-loop2 μ-loop2
+add-end c = search (needs, place-fits)
+
+loop-holds : tie.Need-loop-holds Inv-loop μ-loop Inv-loop2 μ-loop2
+loop-holds c = (search needs, search needs, λ s q. moves-none _ _ s _)
+
+cast-t14 : tie.Need-cast-t14 Inv-loop μ-loop Inv-loop2 μ-loop2
+cast-t14 c = search needs
+
+add-t15 : tie.Need-add-t15 Inv-loop μ-loop Inv-loop2 μ-loop2
+add-t15 c = search (needs, place-fits)
+
+shared-slice-read-t17 : tie.Need-shared-slice-read-t17 Inv-loop μ-loop Inv-loop2 μ-loop2
+shared-slice-read-t17 c = omega arith
+
+insert-requires : tie.Need-insert-requires Inv-loop μ-loop Inv-loop2 μ-loop2
+insert-requires c κs = search needs
+
+add-e : tie.Need-add-e Inv-loop μ-loop Inv-loop2 μ-loop2
+add-e c = search needs
+
+loop-less : tie.Need-loop-less Inv-loop μ-loop Inv-loop2 μ-loop2
+loop-less c = search needs
+
+loop-again : tie.Need-loop-again Inv-loop μ-loop Inv-loop2 μ-loop2
+loop-again c = (search needs, search needs, λ s q. moves-read _ _ s _ _ _ _ _ (c .before .before .before .loop .inv .2 s q) q (search needs))
+
+loop2-holds : tie.Need-loop2-holds Inv-loop μ-loop Inv-loop2 μ-loop2
+loop2-holds c = (search needs, moves-none _ _ _ _)
+
+next-requires : tie.Need-next-requires Inv-loop μ-loop Inv-loop2 μ-loop2
+next-requires c κs = search needs
+
+insert-requires-2 : tie.Need-insert-requires-2 Inv-loop μ-loop Inv-loop2 μ-loop2
+insert-requires-2 c κs = search needs
+
+add-e-2 : tie.Need-add-e-2 Inv-loop μ-loop Inv-loop2 μ-loop2
+add-e-2 c = search needs
+
+loop2-less : tie.Need-loop2-less Inv-loop μ-loop Inv-loop2 μ-loop2
+loop2-less c = search needs
+
+loop2-again : tie.Need-loop2-again Inv-loop μ-loop Inv-loop2 μ-loop2
+loop2-again c = (search needs, search (needs, moves-more))
+
+returns : tie.Need-returns Inv-loop μ-loop Inv-loop2 μ-loop2
+returns c = moves-all _ _ _ _ _ _ (search needs) (search needs) (c .before .loop .inv .2 _ refl)
+
+returns-2 : tie.Need-returns-2 Inv-loop μ-loop Inv-loop2 μ-loop2
+returns-2 c = search (needs, moves-all)
+
+pub with-moves-spec : {M : Type 1} → statement M
+with-moves-spec =
+    tie.close
+    (tie.spec
+    Inv-loop
+    μ-loop
+    Inv-loop2
+    μ-loop2
+    cast-row
+    mul-row
+    add-end
+    loop-holds
+    cast-t14
+    add-t15
+    shared-slice-read-t17
+    insert-requires
+    add-e
+    loop-less
+    loop-again
+    loop2-holds
+    next-requires
+    insert-requires-2
+    add-e-2
+    loop2-less
+    loop2-again
+    returns
+    returns-2)

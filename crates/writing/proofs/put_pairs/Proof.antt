@@ -1,0 +1,110 @@
+-- `writing::put_pairs` meets its contract: the pairs passed stand in front of what was there.
+-- Assumes nothing.
+use Prim.Native.Nat.{_+_, _-_, _*_, _≤_}
+use mathlib.Core.Path.{_≡_, refl, _∙_}
+use mathlib.Core.List.{_++_, append-nil}
+use native.Mathlib.Omega.{arith}
+use native.Mathlib.Numerals.{add-one}
+use lib.ListN.{length, drop, getD}
+use lib.Seq.{drop-length}
+use borrow.Rule.Slice.PartMut.{putMid, same-len-mid}
+use Rattle.octets.proofs.ListLaws.{part-more, part-length}
+use Rattle.rule.specs.Drawing.{noPair}
+use Rattle.rulefile.specs.Layout.{flatUpTo, pairsOut, pairOut}
+use Rattle.rulefile.proofs.LayoutLaws.{length-pairOut, length-pairsOut}
+use Rattle.writing.proofs.put_pairs.Statement.{statement}
+use Rattle.writing.proofs.put_pairs.Tie as tie
+use Rattle.writing.proofs.put_pairs.Reads as reads
+use Rattle.writing.proofs.put_pairs.Lts as lts
+use Rattle.writing.proofs.put_pair.Reads as put-pair-reads
+
+abbrev Inv-loop : tie.InvT-loop
+Inv-loop out₀ count pairs end i₀ out i = (i ≤ end) × (end ≡ count) × (out ≡ pairsOut pairs i ++ drop (16 * i) out₀) × (length out ≡ length out₀)
+
+abbrev μ-loop : tie.MeasureT-loop
+μ-loop out₀ count pairs end i₀ out i = end - i
+
+loop-holds : tie.Need-loop-holds Inv-loop μ-loop
+unfolding flatUpTo
+loop-holds c = (omega arith, refl, refl, refl)
+
+mul-pair : tie.Need-mul-pair Inv-loop μ-loop
+mul-pair c = omega arith
+
+array-copy-out-pair : tie.Need-array-copy-out-pair Inv-loop μ-loop
+array-copy-out-pair c = omega arith
+
+mul-at : tie.Need-mul-at Inv-loop μ-loop
+mul-at c = omega arith
+
+add-put-pair : tie.Need-add-put-pair Inv-loop μ-loop
+add-put-pair c = omega arith
+
+sub-put-pair : tie.Need-sub-put-pair Inv-loop μ-loop
+sub-put-pair c = omega arith
+
+part-put-pair-start : tie.Need-part-put-pair-start Inv-loop μ-loop
+part-put-pair-start c = omega arith
+
+part-put-pair-end : tie.Need-part-put-pair-end Inv-loop μ-loop
+part-put-pair-end c = omega arith
+
+put-pair-requires : tie.Need-put-pair-requires Inv-loop μ-loop
+put-pair-requires c κs =
+    let l = c .before .before .before .loop in
+    part-length (16 * l .i) (16 * l .i + 16) (l .out) (omega arith) ∙ omega arith
+
+add-i : tie.Need-add-i Inv-loop μ-loop
+add-i c = omega arith
+
+loop-less : tie.Need-loop-less Inv-loop μ-loop
+loop-less c = omega arith
+
+loop-again : tie.Need-loop-again Inv-loop μ-loop
+unfolding flatUpTo
+loop-again c =
+    let l = c .before .before .before .before .before .before .loop in
+    let a = c .before .before .before .before .before .before .before .before .args in
+    let p = c .before .before .put-pair in
+    let k : 16 * l .i + 16 - 16 * l .i ≡ 16 = omega arith in
+    let n : 16 * (l .i + 1) ≡ 16 * l .i + 16 = omega arith in
+    let q = pairOut (getD (a .t2) (l .i) noPair) in
+    let more : putMid (16 * l .i) 16 (l .out) (p .last .0) ≡ (pairsOut (a .t2) (l .i) ++ q) ++ drop (16 * l .i + 16) (a .out .now)
+    = rw (l .inv .2, p .ensures)
+    (part-more (pairsOut (a .t2) (l .i)) q (a .out .now) (16 * l .i) 16 (length-pairsOut (a .t2) (l .i)) (length-pairOut _)) in (
+      omega arith,
+      l .inv .1,
+      rw (k, n, add-one) more,
+      same-len-mid (16 * l .i) (16 * l .i + 16 - 16 * l .i) (l .out) (p .last .0) (p .kept .0) ∙ l .inv .3,
+    )
+
+same-length : tie.Need-same-length Inv-loop μ-loop
+same-length c = c .before .loop .inv .3
+
+returns : tie.Need-returns Inv-loop μ-loop
+returns c =
+    let l = c .before .loop in
+    let a = c .before .before .before .args in
+    let i : l .i ≡ a .count = omega arith in
+    rw (l .inv .2, i, ← c .before .before .before .pre .1, drop-length, append-nil)
+
+pub put-pairs-spec : {M : Type 1} → statement M
+put-pairs-spec =
+    tie.close
+    (tie.spec
+    Inv-loop
+    μ-loop
+    loop-holds
+    mul-pair
+    array-copy-out-pair
+    mul-at
+    add-put-pair
+    sub-put-pair
+    part-put-pair-start
+    part-put-pair-end
+    put-pair-requires
+    add-i
+    loop-less
+    loop-again
+    same-length
+    returns)
