@@ -1,12 +1,14 @@
--- What `checked` comes to, return by return, and what it comes to of a shape that passed check 3.
+-- What `checked` comes to, return by return; what it comes to of a shape that passed check 3; and the numbers that it gives.
 -- Assumes nothing.
 use mathlib.Core.Path.{_≡_, refl, sym, _∙_}
+use mathlib.Core.Bool.{not}
 use mathlib.Core.List.{List}
 use Prim.Native.Nat.{ℕ, _≤_, _<_}
 use native.Mathlib.Omega.{arith}
 use borrow.Author.Tests.{le-leb, lt-leb}
 use Rattle.rule.specs.Drawing.{body}
 use Rattle.rule.specs.Refusals.{firstOf, conditions}
+use Rattle.rule.proofs.NumberLaws.{Gives, refuse-gives, first-gives, and, all-wider, conditions-give}
 use Rattle.rule.specs.declared.Pair.{Pair}
 use Rattle.rule.specs.declared.Shape.{Shape}
 use Rattle.rule.specs.declared.Refusal.the-variants.{Range}
@@ -36,3 +38,10 @@ module _ (s : Shape) (table : List ℕ) (ps : List Pair) where
 
       pub held : s .pairs ≤ 8 → {v : Verdict} → v ≡ firstOf (conditions (body s table ps)) → v ≡ checkedOf s table ps
       held h e = e ∙ sym (in-range h)
+
+  -- the numbers that it gives
+  pub checked-gives : Gives 3 10 (checkedOf s table ps)
+  unfolding checkedOf
+  checked-gives =
+      first-gives
+      (and (refuse-gives (not (holds s)) Range (omega arith)) (all-wider (omega arith) (omega arith) (conditions-give (body s table ps))))

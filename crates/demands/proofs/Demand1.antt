@@ -7,19 +7,23 @@
 use Prim.Native.Nat.{ℕ}
 use mathlib.Core.Path.{_≡_, sym}
 use mathlib.Core.Logic.{_⊎_}
-use mathlib.Core.List.{List}
+use mathlib.Core.List.{List, [], _∷_}
 use Rattle.rule.specs.Drawing.{drawn, stateNo, zeroRule}
-use Rattle.rule.specs.Refusals.{Numbered}
+use Rattle.rule.specs.Refusals.{Numbered, firstOf}
 use Rattle.rule.specs.declared.EventNo.{EventNo}
+use Rattle.rule.specs.declared.Pair.{Pair}
 use Rattle.rule.specs.declared.Rule.{Rule}
+use Rattle.rule.specs.declared.Shape.{Shape}
 use Rattle.rule.specs.declared.Refusal.{Refusal}
 use Rattle.rule.specs.declared.Refusal.the-variants.{Sheet as NoSheet, Room}
 use Rattle.rule.specs.declared.Verdict.the-variants.{Refused as Unsound}
-use Rattle.rulefile.specs.Layout.{drawingIn, fileOf}
-use Rattle.rulefile.specs.Reading.{verdictOn, readingOf}
+use Rattle.checks.specs.Checked.{checkedOf}
+use Rattle.checks.proofs.HeldLaws.{checked-gives}
+use Rattle.rulefile.specs.Layout.{class, range, drawingIn, fileOf}
+use Rattle.rulefile.specs.Reading.{verdictOn, partsBy, partsOf, readingOf}
 use Rattle.rulefile.specs.Writing.{verdictOf, WritePromise, OneWritten}
 use Rattle.rulefile.specs.declared.Written.the-variants.{Refused as Unwritten}
-use Rattle.rulefile.proofs.AnswerLaws.{file-gives, rule-gives, read-zero, put-refused, put-kept, put-one}
+use Rattle.rulefile.proofs.AnswerLaws.{file-gives, shape-gives, rule-gives, parts-zero, read-zero, put-refused, put-kept, put-one}
 use Rattle.sheet.specs.Making.{sheetOf, MakePromise}
 use Rattle.sheet.specs.Opening.{openedOf}
 use Rattle.monitor.specs.Fresh.{freshRun, startOf}
@@ -35,6 +39,10 @@ use Rattle.office.specs.declared.Answered.{Answered}
 use Rattle.office.proofs.RefusedLaws.{make-kept, event-kept}
 
 pub record Demand1 : Type 0 where
+  -- looking at a rule file: 1 to 10, and 0 in every place; of its checks alone, 2 and 3 of a shape, 3 and 5 to 10 of a table and pairs
+  pub look : (f : List ℕ) (x : Refusal) → partsOf f .verdict ≡ Unsound x → Numbered 1 10 x × (partsOf f ≡ partsBy (Unsound x) [])
+  pub shape : (s : Shape) (spare : ℕ) (x : Refusal) → firstOf (class s ∷ range s spare ∷ []) ≡ Unsound x → Numbered 2 3 x
+  pub check : (s : Shape) (table : List ℕ) (pairs : List Pair) (x : Refusal) → checkedOf s table pairs ≡ Unsound x → Numbered 3 10 x
   -- reading: 1 to 10, and a rule with 0 in every place
   pub read : (f : List ℕ) (x : Refusal) → readingOf f .verdict ≡ Unsound x → Numbered 1 10 x × (readingOf f .rule ≡ zeroRule)
   -- writing: 2 to 10 or 16, and the output as it was
@@ -60,9 +68,12 @@ pub record Demand1 : Type 0 where
       → EventForC sheet state held event memory output r memory′ output′ → (r .refusal ≡ 0 → ⊥) → EventKept state held memory output r memory′ output′
 
 pub demand-1 : Demand1
-unfolding readingOf
+unfolding partsOf readingOf
 demand-1 =
     record {
+      look = λ f x p. let z = parts-zero (verdictOn f) f x p in (file-gives f x (z .0), z .1);
+      shape = shape-gives;
+      check = checked-gives;
       read = λ f x p. let z = read-zero (verdictOn f) _ x p in (file-gives f x (z .0), z .1);
       write = λ r out. put-one (verdictOf r) (fileOf (drawn r)) out;
       write-refused = λ r out x out′ p. (
