@@ -1,15 +1,15 @@
 -- Laws of one event: what it comes to, from the tests on the way, and what it leaves.
 -- Assumes nothing.
-use Prim.Native.Nat.{ℕ, _+_, _/_, _%_, _≤_, _<_}
+use Prim.Native.Nat.{ℕ, _+_, _*_, _/_, _%_, _≤_, _<_}
 use native.Mathlib.Omega.{arith}
 use native.Mathlib.Numerals.{add-one}
 use mathlib.Core.Path.{_≡_, refl, sym, _∙_}
 use mathlib.Core.Bool.{Bool, true, false, cond, _||_, or-true}
 use mathlib.Core.List.{List, _++_}
-use lib.Dec.{leb, ltb}
+use lib.Dec.{leb, ltb, eqb}
 use lib.ListN.{length, take, drop, set}
 use lib.Seq.{length-take-le}
-use borrow.Author.Tests.{le-ltb, lt-ltb, le-leb, lt-leb, eq-eqb, ne-eqb, ltb-false}
+use borrow.Author.Tests.{le-ltb, lt-ltb, le-leb, lt-leb, eq-eqb, ne-eqb, leb-false, ltb-false}
 use Rattle.octets.specs.Copies.{copied}
 use Rattle.octets.proofs.CopyLaws.{copied-whole}
 use Rattle.octets.proofs.ListLaws.{store-more}
@@ -21,58 +21,87 @@ use Rattle.rule.specs.declared.Operation.the-variants.{Halt, Store, Dump}
 use Rattle.rule.specs.declared.Refusal.{Refusal}
 use Rattle.rule.specs.declared.Refusal.the-variants.{Sheet as NoSheet, Run as BadRun, Code, Cell, Memory, Room}
 use Rattle.sheet.specs.Opening.{openedOf}
+use Rattle.sheet.proofs.OpeningLaws.{place-inside}
 use Rattle.sheet.specs.declared.Head.{Head}
 use Rattle.sheet.specs.declared.Opened.{Opened}
 use Rattle.sheet.specs.declared.Opened.the-variants.{Sheet, Refused as Shut}
-use Rattle.monitor.specs.Event.{cellTurn, lookOf, roomTurn, outputIn, TurnPromise, StorePromise, DumpPromise, StepPromise, EventPromise}
-use Rattle.monitor.specs.Given.{cellRead, CodeFits, CellFits, WrongRun, state-past, held-past, WrongCode, WrongCell, operation-3, next-past, Reads}
+use Rattle.monitor.specs.Event.{operationOf, cellTurn, lookOf, roomTurn, outputIn, TurnPromise, StorePromise, DumpPromise, StepPromise, EventPromise}
+use Rattle.monitor.specs.Given.{cellRead, RunFits, CodeFits, WrongRun, state-past, held-past, WrongCode, WrongCell, operation-3, next-past, Reads}
 use Rattle.monitor.specs.declared.Run.{Run}
 use Rattle.monitor.specs.declared.Turn.{Turn}
 use Rattle.monitor.specs.declared.Turn.the-variants.{Move, Refused}
 use Rattle.monitor.specs.declared.Answer.{Answer}
 use Rattle.monitor.specs.declared.Answer.the-variants.{Taken, Refused as Declined}
 
--- what the sheet says at the run's state and the event, by the rows of the table
+-- what a cell says
+module _ (cell states : ℕ) (run : Run) (e : EventNo) where
+  pub cell-14 : (eqb (cell / 64) 3 || leb states (cell % 64)) ≡ true → Refused (Cell (run .state) e) ≡ cellTurn cell states run e
+  unfolding cellTurn
+  cell-14 p = rw p
+
+  module _ (fits : (eqb (cell / 64) 3 || leb states (cell % 64)) ≡ false) where
+    pub cell-move : {o : Operation} → operationOf (cell / 64) ≡ o → Move o (stateNo (cell % 64)) ≡ cellTurn cell states run e
+    unfolding cellTurn
+    cell-move q = rw (fits, q)
+
+    pub cell-halt : cell / 64 ≡ 0 → Move Halt (stateNo (cell % 64)) ≡ cellTurn cell states run e
+    cell-halt a = cell-move (rw a)
+
+    pub cell-store : cell / 64 ≡ 1 → Move Store (stateNo (cell % 64)) ≡ cellTurn cell states run e
+    cell-store a = cell-move (rw a)
+
+    pub cell-dump : (cell / 64 ≡ 0 → ⊥) → (cell / 64 ≡ 1 → ⊥) → Move Dump (stateNo (cell % 64)) ≡ cellTurn cell states run e
+    cell-dump a b = cell-move (simp (ne-eqb _ _ a, ne-eqb _ _ b))
+
+-- what the sheet says at the run's state and the event
+left-false : (a b : Bool) → (a || b) ≡ false → a ≡ false
+left-false true b p = p
+left-false false b p = refl
+
+module _ (h : Head) (sheet : List ℕ) (run : Run) (e : EventNo) (room : ℕ) where
+  pub run-12 : (leb (h .states) (run .state .0) || ltb room (run .held)) ≡ true → Refused BadRun ≡ lookOf h sheet run e room
+  unfolding lookOf
+  run-12 p = rw p
+
+  module _ (fits : (leb (h .states) (run .state .0) || ltb room (run .held)) ≡ false) where
+    pub state-fits : run .state .0 < h .states
+    state-fits = leb-false _ _ (left-false (leb (h .states) (run .state .0)) (ltb room (run .held)) fits)
+
+    pub cell-inside : Sheet h ≡ openedOf sheet → e .0 < h .events → run .state .0 * h .events + e .0 < length sheet
+    cell-inside o a = place-inside sheet h o (run .state .0) state-fits (e .0) a
+
+    pub code-13 : h .events ≤ e .0 → Refused Code ≡ lookOf h sheet run e room
+    unfolding lookOf
+    code-13 a = rw (fits, le-leb _ _ a)
+
+    -- with none of these it is what the cell says
+    pub code-fits : {t : Turn} → e .0 < h .events → t ≡ cellTurn (cellRead h sheet run e) (h .states) run e → t ≡ lookOf h sheet run e room
+    unfolding lookOf
+    code-fits a p = p ∙ rw (fits, lt-leb _ _ a)
+
+-- the same by the rows of the table
 module _ {h : Head} (sheet : List ℕ) {run : Run} (e : EventNo) {room : ℕ} where
   pub look-12 : WrongRun h run room → Refused BadRun ≡ lookOf h sheet run e room
-  unfolding lookOf
-  look-12 (state-past a) = simp (le-leb _ _ a)
-  look-12 (held-past a) = simp (lt-ltb _ _ a, or-true)
+  look-12 (state-past a) = run-12 h sheet run e room (simp (le-leb _ _ a))
+  look-12 (held-past a) = run-12 h sheet run e room (simp (lt-ltb _ _ a, or-true))
+
+  run-fits : RunFits h run room → (leb (h .states) (run .state .0) || ltb room (run .held)) ≡ false
+  run-fits f = simp (lt-leb _ _ (f .state-in), le-ltb _ _ (f .held-in))
 
   pub look-13 : WrongCode h run e room → Refused Code ≡ lookOf h sheet run e room
-  unfolding lookOf
-  look-13 w =
-      simp (lt-leb _ _ (w .run-fits .state-in), le-ltb _ _ (w .run-fits .held-in), le-leb _ _ (w .event-past))
+  look-13 w = code-13 h sheet run e room (run-fits (w .run-fits)) (w .event-past)
 
-  -- with none of these it is what the cell says
-  look-cell : CodeFits h run e room → lookOf h sheet run e room ≡ cellTurn (cellRead h sheet run e) (h .states) run e
-  unfolding lookOf
-  look-cell f =
-      simp
-      (lt-leb _ _ (f .run-fits .state-in), le-ltb _ _ (f .run-fits .held-in), lt-leb _ _ (f .event-in))
+  look-cell : {t : Turn} → CodeFits h run e room → t ≡ cellTurn (cellRead h sheet run e) (h .states) run e → t ≡ lookOf h sheet run e room
+  look-cell f = code-fits h sheet run e room (run-fits (f .run-fits)) (f .event-in)
 
   pub look-14 : WrongCell h sheet run e room → Refused (Cell (run .state) e) ≡ lookOf h sheet run e room
-  unfolding cellTurn
-  look-14 (operation-3 f a) = sym (look-cell f ∙ simp (eq-eqb _ _ a))
-  look-14 (next-past f a) = sym (look-cell f ∙ simp (le-leb _ _ a, or-true))
+  look-14 (operation-3 f a) = look-cell f (cell-14 (cellRead h sheet run e) (h .states) run e (simp (eq-eqb _ _ a)))
+  look-14 (next-past f a) = look-cell f (cell-14 (cellRead h sheet run e) (h .states) run e (simp (le-leb _ _ a, or-true)))
 
   pub look-move : {o : Operation} → Reads h sheet run e room o → Move o (stateNo (cellRead h sheet run e % 64)) ≡ lookOf h sheet run e room
-  unfolding cellTurn
   look-move r =
       let f = r .cell-fits in
-      sym (look-cell (f .code-fits) ∙ simp (ne-eqb _ _ (f .operation-in), lt-leb _ _ (f .next-in), r .operation))
-
-  -- the three moves
-  module _ (f : CellFits h sheet run e room) where
-    pub look-halt : cellRead h sheet run e / 64 ≡ 0 → Move Halt (stateNo (cellRead h sheet run e % 64)) ≡ lookOf h sheet run e room
-    look-halt a = look-move (record { cell-fits = f; operation = simp (eq-eqb _ _ a) })
-
-    pub look-store : cellRead h sheet run e / 64 ≡ 1 → Move Store (stateNo (cellRead h sheet run e % 64)) ≡ lookOf h sheet run e room
-    look-store a = look-move (record { cell-fits = f; operation = rw a })
-
-    pub look-dump : (cellRead h sheet run e / 64 ≡ 0 → ⊥) → (cellRead h sheet run e / 64 ≡ 1 → ⊥)
-        → Move Dump (stateNo (cellRead h sheet run e % 64)) ≡ lookOf h sheet run e room
-    look-dump a b = look-move (record { cell-fits = f; operation = simp (ne-eqb _ _ a, ne-eqb _ _ b) })
+      look-cell (f .code-fits) (cell-move (cellRead h sheet run e) (h .states) run e (simp (ne-eqb _ _ (f .operation-in), lt-leb _ _ (f .next-in))) (r .operation))
 
 -- a move is found only where no more is held than the memory is long
 pub move-held : (h : Head) (sheet : List ℕ) (run : Run) (e : EventNo) (room : ℕ) (t : Turn) {o : Operation} {n : StateNo}

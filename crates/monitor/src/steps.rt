@@ -4,7 +4,7 @@ ghost use Prim.Native.Nat.{_≤_};
 ghost use lib.ListN.{length};
 ghost use Rattle.sheet.specs.Opening.{openedOf};
 ghost use Rattle.sheet.specs.declared.Opened.the-variants.{Sheet};
-ghost use Rattle.monitor.specs.Event.{lookOf, StorePromise, DumpPromise, StepPromise};
+ghost use Rattle.monitor.specs.Event.{cellTurn, lookOf, StorePromise, DumpPromise, StepPromise};
 use crate::Answer;
 use crate::Run;
 use crate::Turn;
@@ -14,38 +14,35 @@ use rule::Refusal;
 use rule::StateNo;
 use sheet::Head;
 
+// What a cell says: refusal 14, or a move. Its two tests, and those of 12 below, are joined by `|`: one branch for both.
+fn read(cell: u8, states: u8, run: Run, event: EventNo) -> Turn
+    ensures { λ r. ⌜ r ≡ cellTurn cell states run event ⌝ }
+{
+    let next = StateNo(cell % 64);
+    if (cell / 64 == 3) | (states <= next.0) {
+        let state = run.state;
+        return Turn::Refused(Refusal::Cell(state, event));
+    }
+    match cell / 64 {
+        0 => return Turn::Move(Operation::Halt, next),
+        1 => return Turn::Move(Operation::Store, next),
+        _ => return Turn::Move(Operation::Dump, next),
+    }
+}
+
 // What the sheet says at the run's state and the event: the refusals 12 to 14. `room` is the memory's length.
 pub(crate) fn look(sheet: &[u8], head: Head, run: Run, event: EventNo, room: usize) -> Turn
     requires { ⌜ Sheet head ≡ openedOf (now sheet) ⌝ }
     ensures { λ r. ⌜ r ≡ lookOf head (now (sheet .entry)) run event room ⌝ }
 {
-    let state = run.state;
-    if head.states <= state.0 {
-        return Turn::Refused(Refusal::Run);
-    }
-    if room < run.held {
+    if (head.states <= run.state.0) | (room < run.held) {
         return Turn::Refused(Refusal::Run);
     }
     if head.events <= event.0 {
         return Turn::Refused(Refusal::Code);
     }
-    let at = state.0 as usize * head.events as usize + event.0 as usize;
-    let cell = sheet[at];
-    let next = cell % 64;
-    let mark = cell / 64;
-    if mark == 3 {
-        return Turn::Refused(Refusal::Cell(state, event));
-    }
-    if head.states <= next {
-        return Turn::Refused(Refusal::Cell(state, event));
-    }
-    if mark == 0 {
-        return Turn::Move(Operation::Halt, StateNo(next));
-    }
-    if mark == 1 {
-        return Turn::Move(Operation::Store, StateNo(next));
-    }
-    Turn::Move(Operation::Dump, StateNo(next))
+    let at = run.state.0 as usize * head.events as usize + event.0 as usize;
+    read(sheet[at], head.states, run, event)
 }
 
 // Store: the event joins the held ones, if the memory has a place for it.
@@ -102,18 +99,20 @@ pub(crate) fn step(
 {
     let turn = look(sheet, head, run, event, memory.len());
     match turn {
-        Turn::Refused(refusal) => Answer::Refused(refusal),
+        Turn::Refused(refusal) => return Answer::Refused(refusal),
         Turn::Move(operation, next) => match operation {
-            Operation::Halt => Answer::Taken {
-                operation,
-                run: Run {
-                    state: next,
-                    held: run.held,
-                },
-                released: 0,
-            },
-            Operation::Store => store(next, run, event, memory),
-            Operation::Dump => dump(next, run, event, memory, output),
+            Operation::Halt => {
+                return Answer::Taken {
+                    operation,
+                    run: Run {
+                        state: next,
+                        held: run.held,
+                    },
+                    released: 0,
+                }
+            }
+            Operation::Store => return store(next, run, event, memory),
+            Operation::Dump => return dump(next, run, event, memory, output),
         },
     }
 }

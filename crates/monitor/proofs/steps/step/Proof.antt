@@ -10,11 +10,17 @@ look-requires c κs = search needs
 enum-known-turn : tie.Need-enum-known-turn
 enum-known-turn c = search needs
 
+returns : tie.Need-returns
+returns c = search (needs, step-refused)
+
 enum-known-turn-2 : tie.Need-enum-known-turn-2
 enum-known-turn-2 c = search needs
 
 enum-told : tie.Need-enum-told
 enum-told c = search needs
+
+returns-2 : tie.Need-returns-2
+returns-2 c = search (needs, step-halt)
 
 enum-told-2 : tie.Need-enum-told-2
 enum-told-2 c = search needs
@@ -22,23 +28,17 @@ enum-told-2 c = search needs
 store-requires : tie.Need-store-requires
 store-requires c κs = search needs
 
-enum-told-3 : tie.Need-enum-told-3
-enum-told-3 c = search needs
-
-dump-requires : tie.Need-dump-requires
-dump-requires c κs = search (needs, move-held)
-
-returns : tie.Need-returns
-returns c = search (needs, step-refused)
-
-returns-2 : tie.Need-returns-2
-returns-2 c = search (needs, step-halt)
-
 same-length : tie.Need-same-length
 same-length c = search needs
 
 returns-3 : tie.Need-returns-3
 returns-3 c = search (needs, step-store)
+
+enum-told-3 : tie.Need-enum-told-3
+enum-told-3 c = search needs
+
+dump-requires : tie.Need-dump-requires
+dump-requires c κs = search (needs, move-held)
 
 same-length-2 : tie.Need-same-length-2
 same-length-2 c = search needs
@@ -55,16 +55,16 @@ step-spec =
     (tie.spec
     look-requires
     enum-known-turn
+    returns
     enum-known-turn-2
     enum-told
+    returns-2
     enum-told-2
     store-requires
-    enum-told-3
-    dump-requires
-    returns
-    returns-2
     same-length
     returns-3
+    enum-told-3
+    dump-requires
     same-length-2
     same-length-3
     returns-4)
