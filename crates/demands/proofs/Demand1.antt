@@ -10,12 +10,13 @@ use mathlib.Core.Logic.{_⊎_}
 use mathlib.Core.List.{List, [], _∷_}
 use Rattle.rule.specs.Drawing.{drawn, stateNo, zeroRule}
 use Rattle.rule.specs.Refusals.{Numbered, firstOf}
+use Rattle.rule.specs.declared.StateNo.{StateNo}
 use Rattle.rule.specs.declared.EventNo.{EventNo}
 use Rattle.rule.specs.declared.Pair.{Pair}
 use Rattle.rule.specs.declared.Rule.{Rule}
 use Rattle.rule.specs.declared.Shape.{Shape}
 use Rattle.rule.specs.declared.Refusal.{Refusal}
-use Rattle.rule.specs.declared.Refusal.the-variants.{Sheet as NoSheet, Room}
+use Rattle.rule.specs.declared.Refusal.the-variants.{Sheet as NoSheet, Memory, Room}
 use Rattle.rule.specs.declared.Verdict.the-variants.{Refused as Unsound}
 use Rattle.checks.specs.Checked.{checkedOf}
 use Rattle.checks.proofs.HeldLaws.{checked-gives}
@@ -26,11 +27,13 @@ use Rattle.rulefile.specs.declared.Written.the-variants.{Refused as Unwritten}
 use Rattle.rulefile.proofs.AnswerLaws.{file-gives, shape-gives, rule-gives, parts-zero, read-zero, put-refused, put-kept, put-one}
 use Rattle.sheet.specs.Making.{sheetOf, MakePromise}
 use Rattle.sheet.specs.Opening.{openedOf}
-use Rattle.monitor.specs.Fresh.{freshRun, startOf}
-use Rattle.monitor.specs.Event.{turnOf, EventPromise, OneAnswer}
-use Rattle.monitor.specs.declared.Run.{Run}
-use Rattle.monitor.specs.declared.Answer.the-variants.{Refused}
-use Rattle.monitor.proofs.AnswerLaws.{turn-refuses, turn-one, refused-kept, start-refused}
+use Rattle.monitor.specs.Fresh.{startOf}
+use Rattle.effects.specs.Effects.{freshRun, StorePromise, DumpPromise, OneAnswer}
+use Rattle.monitor.specs.Event.{turnOf, EventPromise}
+use Rattle.effects.specs.declared.Run.{Run}
+use Rattle.effects.specs.declared.Answer.the-variants.{Refused}
+use Rattle.monitor.proofs.AnswerLaws.{turn-refuses, start-refused}
+use Rattle.effects.proofs.KeptLaws.{turn-one, refused-kept, store-kept, dump-kept}
 use Rattle.printed.specs.Printing.{PrintPromise}
 use Rattle.printed.proofs.RefusedLaws.{print-kept}
 use Rattle.office.specs.Told.{MakeForC, EventForC, MakeKept, EventKept}
@@ -60,6 +63,11 @@ pub record Demand1 : Type 0 where
   pub event-refused : (sheet : List ℕ) (run : Run) (e : EventNo) (memory output : List ℕ) (x : Refusal) (memory′ output′ : List ℕ)
       → EventPromise sheet run e memory output (Refused x) memory′ output′
       → Numbered 11 16 x × (memory′ ≡ memory) × (output′ ≡ output)
+  -- its operations alone: a store 15, a dump 16, and the memory or the output as it was
+  pub store-refused : (next : StateNo) (run : Run) (e : EventNo) (memory : List ℕ) (x : Refusal) (memory′ : List ℕ)
+      → StorePromise next run e memory (Refused x) memory′ → (x ≡ Memory) × (memory′ ≡ memory)
+  pub dump-refused : (next : StateNo) (held : List ℕ) (e : EventNo) (output : List ℕ) (x : Refusal) (output′ : List ℕ)
+      → DumpPromise next held e output (Refused x) output′ → (x ≡ Room) × (output′ ≡ output)
   -- printing: 16, and the output as it was
   pub print-refused : (f out : List ℕ) (x : Refusal) (out′ : List ℕ) → PrintPromise f out (Unwritten x) out′ → (x ≡ Room) × (out′ ≡ out)
   -- and from C: a refusal is not 0, is a number of the table, and leaves every buffer and the run state that was given
@@ -90,6 +98,8 @@ demand-1 =
       event-refused = λ sheet run e memory output x memory′ output′ p.
           let k = refused-kept (turnOf sheet run e memory output) run e memory output x memory′ output′ p in
           (turn-refuses (openedOf sheet) sheet run e memory output x (k .0), k .1, k .2);
+      store-refused = store-kept;
+      dump-refused = dump-kept;
       print-refused = print-kept;
       c-make = λ rule out r out′ p n. make-kept p n;
       c-event = λ sheet state held event memory output r memory′ output′ p n. event-kept p n;

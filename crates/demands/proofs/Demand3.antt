@@ -25,11 +25,12 @@ use Rattle.rulefile.proofs.WellLaws.{file-well}
 use Rattle.sheet.specs.Making.{sheetOf}
 use Rattle.sheet.proofs.MakingLaws.{sheet-opens, sheet-cell}
 use Rattle.sheet.proofs.FoundLaws.{sound-formed}
-use Rattle.monitor.specs.Event.{EventPromise, answerIn}
-use Rattle.monitor.specs.declared.Run.{Run}
-use Rattle.monitor.specs.declared.Turn.{Turn}
-use Rattle.monitor.specs.declared.Answer.{Answer}
-use Rattle.monitor.specs.declared.Answer.the-variants.{Taken}
+use Rattle.effects.specs.Effects.{answerIn}
+use Rattle.monitor.specs.Event.{EventPromise}
+use Rattle.effects.specs.declared.Run.{Run}
+use Rattle.effects.specs.declared.Turn.{Turn}
+use Rattle.effects.specs.declared.Answer.{Answer}
+use Rattle.effects.specs.declared.Answer.the-variants.{Taken}
 use Rattle.history.specs.Course.{Entry, codes, beforeHalt}
 use Rattle.history.specs.History.{History}
 use Rattle.demands.specs.Made.{Made}

@@ -9,8 +9,9 @@ use Rattle.rule.specs.declared.Operation.{Operation}
 use Rattle.rule.specs.declared.Operation.the-variants.{Halt, Store, Dump}
 use Rattle.sheet.specs.Making.{sheetOf}
 use Rattle.monitor.specs.Fresh.{startOf}
-use Rattle.monitor.specs.Event.{turnOf, answerIn, memoryIn, outputIn}
-use Rattle.monitor.specs.declared.Run.{Run}
+use Rattle.effects.specs.Effects.{answerIn, memoryIn, outputIn}
+use Rattle.monitor.specs.Event.{turnOf}
+use Rattle.effects.specs.declared.Run.{Run}
 use Rattle.history.specs.Course.{Entry}
 use Rattle.history.specs.History.{logAfter, runAfter, releasedAfter}
 

@@ -23,14 +23,16 @@ use Rattle.rule.specs.declared.Verdict.the-variants.{Sound}
 use Rattle.sheet.specs.Opening.{openedOf}
 use Rattle.sheet.specs.declared.Head.{Head}
 use Rattle.sheet.specs.declared.Opened.the-variants.{Sheet}
-use Rattle.monitor.specs.Fresh.{freshRun, startBy, startOf}
-use Rattle.monitor.specs.Event.{operationOf, cellTurn, lookOf, roomTurn, turnBy, turnOf, stepTurn, answerIn, memoryIn, outputIn, EventPromise, TurnPromise}
-use Rattle.monitor.specs.declared.Run.{Run}
+use Rattle.effects.specs.Effects.{freshRun}
+use Rattle.monitor.specs.Fresh.{startBy, startOf}
+use Rattle.effects.specs.Effects.{roomTurn, answerIn, memoryIn, outputIn, TurnPromise}
+use Rattle.monitor.specs.Event.{operationOf, cellTurn, lookOf, turnBy, turnOf, stepTurn, EventPromise}
+use Rattle.effects.specs.declared.Run.{Run}
 use Rattle.monitor.specs.declared.Start.{Start}
-use Rattle.monitor.specs.declared.Turn.{Turn}
-use Rattle.monitor.specs.declared.Turn.the-variants.{Move, Refused}
-use Rattle.monitor.specs.declared.Answer.{Answer}
-use Rattle.monitor.specs.declared.Answer.the-variants.{Taken}
+use Rattle.effects.specs.declared.Turn.{Turn}
+use Rattle.effects.specs.declared.Turn.the-variants.{Move, Refused}
+use Rattle.effects.specs.declared.Answer.{Answer}
+use Rattle.effects.specs.declared.Answer.the-variants.{Taken}
 use Rattle.history.specs.Course.{Entry, codes, releasedBy, heldBy, Course, start, step, Kept, KeptSharp}
 use Rattle.history.specs.History.{History, fresh, call, others, logAfter, runAfter, releasedAfter}
 use Rattle.history.proofs.CourseLaws.{course-kept, course-sharp, halted, halt-store, halt-dump, store-dump}

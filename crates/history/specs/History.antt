@@ -8,9 +8,9 @@ use Rattle.rule.specs.declared.EventNo.{EventNo}
 use Rattle.rule.specs.declared.Verdict.the-variants.{Sound}
 use Rattle.monitor.specs.Fresh.{startOf}
 use Rattle.monitor.specs.Event.{EventPromise}
-use Rattle.monitor.specs.declared.Run.{Run}
-use Rattle.monitor.specs.declared.Answer.{Answer}
-use Rattle.monitor.specs.declared.Answer.the-variants.{Taken, Refused}
+use Rattle.effects.specs.declared.Run.{Run}
+use Rattle.effects.specs.declared.Answer.{Answer}
+use Rattle.effects.specs.declared.Answer.the-variants.{Taken, Refused}
 use Rattle.monitor.specs.declared.Start.{Start}
 use Rattle.history.specs.Course.{Entry}
 

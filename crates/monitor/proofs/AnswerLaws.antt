@@ -1,8 +1,8 @@
--- What an event and a fresh start answer and leave: the numbers that they give, 11 to 16 and 11, and the buffers after a refusal.
+-- The numbers that an event and a fresh start give: 11 to 16, and 11.
 -- Assumes nothing.
 use Prim.Native.Nat.{ℕ, _+_, _*_, _/_, _%_}
 use native.Mathlib.Omega.{arith}
-use mathlib.Core.Path.{_≡_, refl, sym, ap, _∙_}
+use mathlib.Core.Path.{_≡_, refl}
 use mathlib.Core.Bool.{Bool, true, false, cond, _||_}
 use mathlib.Core.List.{List}
 use lib.ListN.{length, getD}
@@ -19,13 +19,12 @@ use Rattle.rule.specs.declared.Verdict.the-variants.{Refused as Unsound}
 use Rattle.sheet.specs.declared.Head.{Head}
 use Rattle.sheet.specs.declared.Opened.{Opened}
 use Rattle.sheet.specs.declared.Opened.the-variants.{Sheet, Refused as Shut}
-use Rattle.monitor.specs.Fresh.{freshRun, startBy}
-use Rattle.monitor.specs.Event.{operationOf, cellTurn, lookOf, roomTurn, turnBy, turnOf, answerIn, memoryIn, outputIn, TurnPromise, OneAnswer}
-use Rattle.monitor.specs.declared.Run.{Run}
-use Rattle.monitor.specs.declared.Turn.{Turn}
-use Rattle.monitor.specs.declared.Turn.the-variants.{Move, Refused as Away}
-use Rattle.monitor.specs.declared.Answer.{Answer}
-use Rattle.monitor.specs.declared.Answer.the-variants.{Refused}
+use Rattle.monitor.specs.Fresh.{startBy}
+use Rattle.monitor.specs.Event.{operationOf, cellTurn, lookOf, turnBy, turnOf}
+use Rattle.effects.specs.Effects.{freshRun, roomTurn}
+use Rattle.effects.specs.declared.Run.{Run}
+use Rattle.effects.specs.declared.Turn.{Turn}
+use Rattle.effects.specs.declared.Turn.the-variants.{Move, Refused as Away}
 
 -- what a turn refuses
 abbrev Refuses : Turn → Type 0
@@ -61,35 +60,6 @@ room-refuses (Move Dump s) held room space g = either (leb space held) _ _ (goes
 pub turn-refuses : (o : Opened) (sheet : List ℕ) (run : Run) (e : EventNo) (memory output : List ℕ) → Refuses (turnBy o sheet run e memory output)
 turn-refuses (Sheet h) sheet run e memory output = room-refuses (lookOf h sheet run e (length memory)) _ _ _ (look-refuses h sheet run e (length memory))
 turn-refuses Shut sheet run e memory output = goes-away NoSheet (omega arith)
-
--- a refused answer comes of a refused turn
-pub away-of : (t : Turn) (held : ℕ) (x : Refusal) → Refused x ≡ answerIn t held → t ≡ Away x
-away-of (Away y) held x p = let e : x ≡ y = cc in ap Away (sym e)
-away-of (Move Halt s) held x p = absurd (let z : _≡_ {A = ℕ} 0 1 = cc in omega arith)
-away-of (Move Store s) held x p = absurd (let z : _≡_ {A = ℕ} 0 1 = cc in omega arith)
-away-of (Move Dump s) held x p = absurd (let z : _≡_ {A = ℕ} 0 1 = cc in omega arith)
-
--- a turn has one answer, and one memory and output after it
-pub turn-one : (t : Turn) (run : Run) (e : EventNo) (memory output : List ℕ) → OneAnswer (TurnPromise t run e memory output)
-turn-one t run e memory output =
-    record {
-      answer = answerIn t (run .held);
-      memory = memoryIn t (run .held) (e .0) memory;
-      output = outputIn t (run .held) (e .0) memory output;
-      kept = record { answer = refl; memory-after = refl; output-after = refl };
-      only = λ r m out p. (p .answer, p .memory-after, p .output-after);
-    }
-
--- where the answer is a refusal, the memory and the output are as they were
-pub refused-kept : (t : Turn) (run : Run) (e : EventNo) (memory output : List ℕ) (x : Refusal) (memory′ output′ : List ℕ)
-    → TurnPromise t run e memory output (Refused x) memory′ output′
-    → (t ≡ Away x) × (memory′ ≡ memory) × (output′ ≡ output)
-refused-kept t run e memory output x memory′ output′ p =
-    let a : t ≡ Away x = away-of t (run .held) x (p .answer) in (
-      a,
-      p .memory-after ∙ ap (λ (s : Turn). memoryIn s (run .held) (e .0) memory) a,
-      p .output-after ∙ ap (λ (s : Turn). outputIn s (run .held) (e .0) memory output) a,
-    )
 
 -- a fresh start that is refused
 pub start-refused : (o : Opened) (x : Refusal) → startBy o .verdict ≡ Unsound x → (x ≡ NoSheet) × (startBy o .run ≡ freshRun (stateNo 0))

@@ -2,17 +2,13 @@
 -- Assumes nothing.
 use Prim.Native.Nat.{ℕ, _+_, _*_, _/_, _%_, _≤_, _<_}
 use native.Mathlib.Omega.{arith}
-use native.Mathlib.Numerals.{add-one}
 use mathlib.Core.Path.{_≡_, refl, sym, _∙_}
 use mathlib.Core.Bool.{Bool, true, false, cond, _||_, or-true}
-use mathlib.Core.List.{List, _++_}
+use mathlib.Core.List.{List}
 use lib.Dec.{leb, ltb, eqb}
-use lib.ListN.{length, take, drop, set}
-use lib.Seq.{length-take-le}
+use lib.ListN.{length, take, length-take}
+use lib.Seq.{length-take-le, take-all}
 use borrow.Author.Tests.{le-ltb, lt-ltb, le-leb, lt-leb, eq-eqb, ne-eqb, leb-false, ltb-false}
-use Rattle.octets.specs.Copies.{copied}
-use Rattle.octets.proofs.CopyLaws.{copied-whole}
-use Rattle.octets.proofs.ListLaws.{store-more}
 use Rattle.rule.specs.Drawing.{stateNo}
 use Rattle.rule.specs.declared.StateNo.{StateNo}
 use Rattle.rule.specs.declared.EventNo.{EventNo}
@@ -25,13 +21,14 @@ use Rattle.sheet.proofs.OpeningLaws.{place-inside}
 use Rattle.sheet.specs.declared.Head.{Head}
 use Rattle.sheet.specs.declared.Opened.{Opened}
 use Rattle.sheet.specs.declared.Opened.the-variants.{Sheet, Refused as Shut}
-use Rattle.monitor.specs.Event.{operationOf, cellTurn, lookOf, roomTurn, outputIn, TurnPromise, StorePromise, DumpPromise, StepPromise, EventPromise}
+use Rattle.monitor.specs.Event.{operationOf, cellTurn, lookOf, StepPromise, EventPromise}
+use Rattle.effects.specs.Effects.{roomTurn, memoryIn, outputIn, TurnPromise, StorePromise, DumpPromise}
 use Rattle.monitor.specs.Given.{cellRead, RunFits, CodeFits, WrongRun, state-past, held-past, WrongCode, WrongCell, operation-3, next-past, Reads}
-use Rattle.monitor.specs.declared.Run.{Run}
-use Rattle.monitor.specs.declared.Turn.{Turn}
-use Rattle.monitor.specs.declared.Turn.the-variants.{Move, Refused}
-use Rattle.monitor.specs.declared.Answer.{Answer}
-use Rattle.monitor.specs.declared.Answer.the-variants.{Taken, Refused as Declined}
+use Rattle.effects.specs.declared.Run.{Run}
+use Rattle.effects.specs.declared.Turn.{Turn}
+use Rattle.effects.specs.declared.Turn.the-variants.{Move, Refused}
+use Rattle.effects.specs.declared.Answer.{Answer}
+use Rattle.effects.specs.declared.Answer.the-variants.{Taken, Refused as Declined}
 
 -- what a cell says
 module _ (cell states : ℕ) (run : Run) (e : EventNo) where
@@ -114,40 +111,12 @@ move-held h sheet run e room t p q = by _ (leb (h .states) (run .state .0)) (ltb
     by x false true u v = absurd (let z : _≡_ {A = ℕ} 0 1 = cc in omega arith)
     by x false false u v = ltb-false _ _ u
 
--- what store does
-module _ (next : StateNo) (run : Run) (e : EventNo) (memory : List ℕ) where
-  pub store-full : length memory ≤ run .held → StorePromise next run e memory (Declined Memory) memory
-  store-full a =
-      let t = le-leb _ _ a in
-      record { answer = rw t; memory-after = rw t; output-after = rw t }
-
-  pub stored : run .held < length memory
-      → StorePromise next run e memory (Taken Store (record { state = next; held = run .held + 1 }) 0) (set memory (run .held) (e .0))
-  stored a =
-      let t = lt-leb _ _ a in
-      record { answer = rw t; memory-after = rw t; output-after = rw t }
-
--- what dump does
+-- what was taken is taken whole
 pub taken-long : (n : ℕ) (l : List ℕ) → n ≤ length l → n ≡ length (take n l)
 taken-long n l h = sym (length-take-le n l h)
 
-module _ (next : StateNo) (run : Run) (e : EventNo) (memory output : List ℕ) where
-  pub dump-full : length output ≤ run .held → DumpPromise next run e memory output (Declined Room) output
-  dump-full a =
-      let t = le-leb _ _ a in
-      record { answer = rw t; memory-after = rw t; output-after = rw t }
-
-  pub dumped : {to : List ℕ} → run .held ≤ length memory → run .held < length output → to ≡ copied (take (run .held) memory) output
-      → DumpPromise next run e memory output (Taken Dump (record { state = next; held = 0 }) (run .held + 1)) (set to (run .held) (e .0))
-  dumped {to} a b d =
-      let t = lt-leb _ _ b in
-      let n : length (take (run .held) memory) ≡ run .held = length-take-le _ _ a in
-      let w : to ≡ take (run .held) memory ++ drop (run .held) output = d ∙ copied-whole (take (run .held) memory) output (omega arith) ∙ rw n in
-      record {
-        answer = rw t;
-        memory-after = rw t;
-        output-after = rw (t, w, add-one) (store-more (take (run .held) memory) output (run .held) (e .0) 0 n b);
-      }
+take-take : (n : ℕ) (l : List ℕ) → take n (take n l) ≡ take n l
+take-take n l = take-all n (take n l) (rw (length-take n l) (omega arith))
 
 -- what a step does, from the turn that was found
 module _ (h : Head) (sheet : List ℕ) (run : Run) (e : EventNo) (memory output : List ℕ) (t : Turn) (look : t ≡ lookOf h sheet run e (length memory)) where
@@ -175,11 +144,24 @@ module _ (h : Head) (sheet : List ℕ) (run : Run) (e : EventNo) (memory output 
         kept true = refl
         kept false = refl
 
-    pub step-dump : {r : Answer} {output′ : List ℕ} → o ≡ Dump → DumpPromise n run e memory output r output′
+    -- the held events are those that the memory holds from its front
+    pub step-dump : {r : Answer} {output′ : List ℕ} → o ≡ Dump → DumpPromise n (take (run .held) memory) e output r output′
         → StepPromise h sheet run e memory output r memory output′
     step-dump q p =
         let w : t ≡ Move Dump n = cc in
-        turned _ _ _ (rw w p)
+        let k : length (take (run .held) memory) ≡ run .held = length-take-le _ _ (move-held h sheet run e (length memory) t look w) in
+        let full = leb (length output) (run .held) in
+        turned _ _ _
+        (rw w (record { answer = p .answer ∙ rw k; memory-after = kept full; output-after = p .output-after ∙ rw k (whole full) }))
+      where
+        kept : (full : Bool) → memory ≡ memoryIn (cond full (Refused Room) (Move Dump n)) (run .held) (e .0) memory
+        kept true = refl
+        kept false = refl
+
+        whole : (full : Bool) → outputIn (cond full (Refused Room) (Move Dump n)) (run .held) (e .0) (take (run .held) memory) output
+            ≡ outputIn (cond full (Refused Room) (Move Dump n)) (run .held) (e .0) memory output
+        whole true = refl
+        whole false = rw (take-take (run .held) memory)
 
 -- what an event does, from the sheet that was opened
 module _ (sheet : List ℕ) (res : Opened) (open-is : res ≡ openedOf sheet) where

@@ -14,8 +14,9 @@ use Rattle.sheet.specs.declared.Head.{Head}
 use Rattle.sheet.specs.declared.Opened.{Opened}
 use Rattle.sheet.specs.declared.Opened.the-variants.{Sheet, Refused as Shut}
 use Rattle.sheet.proofs.OpeningLaws.{refused-when}
-use Rattle.monitor.specs.Fresh.{freshRun, startBy, startOf}
-use Rattle.monitor.specs.declared.Run.{Run}
+use Rattle.monitor.specs.Fresh.{startBy, startOf}
+use Rattle.effects.specs.Effects.{freshRun}
+use Rattle.effects.specs.declared.Run.{Run}
 
 module _ (sheet : List ℕ) (res : Opened) (open-is : res ≡ openedOf sheet) (run : Run) where
   pub fresh-shut : res ≡ Shut → run ≡ freshRun (stateNo 0) → record { verdict = Refused NoSheet; run = run } ≡ startOf sheet

@@ -20,13 +20,14 @@ use Rattle.sheet.specs.declared.Head.{Head}
 use Rattle.sheet.specs.declared.Opened.{Opened}
 use Rattle.sheet.specs.declared.Opened.the-variants.{Sheet, Refused as Shut}
 use Rattle.sheet.proofs.OpeningLaws.{refused-when}
-use Rattle.monitor.specs.Event.{operationOf, roomTurn, turnOf, EventPromise}
+use Rattle.monitor.specs.Event.{operationOf, turnOf, EventPromise}
+use Rattle.effects.specs.Effects.{roomTurn}
 use Rattle.monitor.specs.Given.{cellRead, RunFits, CodeFits, CellFits, WrongRun, state-past, held-past, WrongCode, WrongCell, operation-3, next-past, Reads, NoMemory, NoRoom, HasRoom, halt, store, dump, Takes, On, Comes, at-11, at-12, at-13, at-14, at-15, at-16, taken}
-use Rattle.monitor.specs.declared.Run.{Run}
-use Rattle.monitor.specs.declared.Turn.{Turn}
-use Rattle.monitor.specs.declared.Turn.the-variants.{Move, Refused}
-use Rattle.monitor.specs.declared.Answer.{Answer}
-use Rattle.monitor.specs.declared.Answer.the-variants.{Refused as Declined}
+use Rattle.effects.specs.declared.Run.{Run}
+use Rattle.effects.specs.declared.Turn.{Turn}
+use Rattle.effects.specs.declared.Turn.the-variants.{Move, Refused}
+use Rattle.effects.specs.declared.Answer.{Answer}
+use Rattle.effects.specs.declared.Answer.the-variants.{Refused as Declined}
 use Rattle.monitor.proofs.EventLaws.{look-12, look-13, look-14, look-move}
 
 module _ (sheet : List ℕ) (run : Run) (e : EventNo) (memory output : List ℕ) where

@@ -3,16 +3,12 @@
 use Prim.Native.Nat.{ℕ}
 use mathlib.Core.Path.{_≡_, sym, _∙_}
 use mathlib.Core.List.{List}
-use Rattle.rule.specs.declared.StateNo.{StateNo}
 use Rattle.rule.specs.declared.EventNo.{EventNo}
 use Rattle.monitor.specs.Event.{EventPromise}
-use Rattle.monitor.specs.Fresh.{freshRun, startOf}
-use Rattle.monitor.specs.declared.Run.{Run}
+use Rattle.monitor.specs.Fresh.{startOf}
+use Rattle.effects.specs.declared.Run.{Run}
 use Rattle.monitor.specs.declared.Start.{Start}
-use Rattle.monitor.specs.declared.Answer.{Answer}
-
-pub Run-new-one-answer : (initial : StateNo) {a b : Run} → a ≡ freshRun initial → b ≡ freshRun initial → a ≡ b
-Run-new-one-answer initial p q = p ∙ sym q
+use Rattle.effects.specs.declared.Answer.{Answer}
 
 pub fresh-one-answer : (sheet : List ℕ) {a b : Start} → a ≡ startOf sheet → b ≡ startOf sheet → a ≡ b
 fresh-one-answer sheet p q = p ∙ sym q

@@ -3,18 +3,13 @@
 use Prim.Native.Nat.{ℕ}
 use mathlib.Core.List.{List}
 use Rattle.rule.specs.Drawing.{stateNo}
-use Rattle.rule.specs.declared.StateNo.{StateNo}
 use Rattle.rule.specs.declared.Refusal.the-variants.{Sheet as NoSheet}
 use Rattle.rule.specs.declared.Verdict.the-variants.{Sound, Refused}
 use Rattle.sheet.specs.Opening.{openedOf}
 use Rattle.sheet.specs.declared.Opened.{Opened}
 use Rattle.sheet.specs.declared.Opened.the-variants.{Sheet, Refused as Shut}
-use Rattle.monitor.specs.declared.Run.{Run}
+use Rattle.effects.specs.Effects.{freshRun}
 use Rattle.monitor.specs.declared.Start.{Start}
-
--- a run at a state with nothing held
-abbrev pub freshRun : StateNo → Run
-freshRun s = record { state = s; held = 0 }
 
 -- at the initial state of an opened sheet; at state 0 where it is refused 11
 abbrev pub startBy : Opened → Start

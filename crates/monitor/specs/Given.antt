@@ -14,9 +14,9 @@ use Rattle.sheet.specs.Given.{BadSheet}
 use Rattle.sheet.specs.Opening.{openedOf}
 use Rattle.sheet.specs.declared.Head.{Head}
 use Rattle.sheet.specs.declared.Opened.the-variants.{Sheet}
-use Rattle.monitor.specs.declared.Run.{Run}
-use Rattle.monitor.specs.declared.Turn.{Turn}
-use Rattle.monitor.specs.declared.Turn.the-variants.{Move, Refused}
+use Rattle.effects.specs.declared.Run.{Run}
+use Rattle.effects.specs.declared.Turn.{Turn}
+use Rattle.effects.specs.declared.Turn.the-variants.{Move, Refused}
 use Rattle.monitor.specs.Event.{operationOf}
 
 -- the cell that is read

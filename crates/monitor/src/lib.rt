@@ -1,55 +1,22 @@
-// The run: a run state, a fresh start, and one event (document 01, "What an operation does").
+// The monitor: a fresh start, and one event (document 01, "What an operation does").
 ghost use mathlib.Core.Path.{_≡_};
 ghost use Rattle.monitor.specs.Event.{EventPromise};
-ghost use Rattle.monitor.specs.Fresh.{freshRun, startOf};
+ghost use Rattle.monitor.specs.Fresh.{startOf};
 
 mod steps;
 
+use effects::Answer;
+use effects::Run;
 use rule::EventNo;
-use rule::Operation;
 use rule::Refusal;
 use rule::StateNo;
 use rule::Verdict;
 use sheet::Opened;
 
-// Where a run stands: its state, and how many events the memory holds from its front.
-pub struct Run {
-    pub state: StateNo,
-    pub held: usize,
-}
-
 // What a fresh start comes to: a run, at state 0 with nothing held where the sheet is refused.
 pub struct Start {
     pub verdict: Verdict,
     pub run: Run,
-}
-
-// What one event comes to before the buffers are touched: a move with its operation, or a refusal.
-pub enum Turn {
-    Move(Operation, StateNo),
-    Refused(Refusal),
-}
-
-// What one event is answered: it was taken, or it was refused and nothing changed.
-pub enum Answer {
-    Taken {
-        operation: Operation,
-        run: Run,
-        released: usize,
-    },
-    Refused(Refusal),
-}
-
-impl Run {
-    // A run that starts: nothing is held.
-    pub fn new(initial: StateNo) -> Self
-        ensures { λ r. ⌜ r ≡ freshRun initial ⌝ }
-    {
-        Self {
-            state: initial,
-            held: 0,
-        }
-    }
 }
 
 // A fresh run starts at the sheet's initial state with nothing held: refusal 11.

@@ -1,13 +1,13 @@
-// One event on an opened sheet: what its cell says, and what its operation does.
+// One event on an opened sheet: what its cell says, and its operation carried out.
 ghost use mathlib.Core.Path.{_≡_};
-ghost use Prim.Native.Nat.{_≤_};
-ghost use lib.ListN.{length};
 ghost use Rattle.sheet.specs.Opening.{openedOf};
 ghost use Rattle.sheet.specs.declared.Opened.the-variants.{Sheet};
-ghost use Rattle.monitor.specs.Event.{cellTurn, lookOf, StorePromise, DumpPromise, StepPromise};
-use crate::Answer;
-use crate::Run;
-use crate::Turn;
+ghost use Rattle.monitor.specs.Event.{cellTurn, lookOf, StepPromise};
+use effects::Answer;
+use effects::Run;
+use effects::Turn;
+use effects::dump;
+use effects::store;
 use rule::EventNo;
 use rule::Operation;
 use rule::Refusal;
@@ -45,46 +45,6 @@ pub(crate) fn look(sheet: &[u8], head: Head, run: Run, event: EventNo, room: usi
     read(sheet[at], head.states, run, event)
 }
 
-// Store: the event joins the held ones, if the memory has a place for it.
-fn store(next: StateNo, run: Run, event: EventNo, memory: &mut [u8]) -> Answer
-    ensures { λ r. ⌜ StorePromise next run event (now (memory .entry)) r (now (memory .exit)) ⌝ }
-{
-    let held = run.held;
-    if memory.len() <= held {
-        return Answer::Refused(Refusal::Memory);
-    }
-    memory[held] = event.0;
-    Answer::Taken {
-        operation: Operation::Store,
-        run: Run {
-            state: next,
-            held: held + 1,
-        },
-        released: 0,
-    }
-}
-
-// Dump: the held events and then this one are released, if the output has a place for all of them.
-fn dump(next: StateNo, run: Run, event: EventNo, memory: &[u8], output: &mut [u8]) -> Answer
-    requires { ⌜ run .held ≤ length (now memory) ⌝ }
-    ensures { λ r. ⌜ DumpPromise next run event (now (memory .entry)) (now (output .entry)) r (now (output .exit)) ⌝ }
-{
-    let held = run.held;
-    if output.len() <= held {
-        return Answer::Refused(Refusal::Room);
-    }
-    octets::copy(&memory[..held], output);
-    output[held] = event.0;
-    Answer::Taken {
-        operation: Operation::Dump,
-        run: Run {
-            state: next,
-            held: 0,
-        },
-        released: held + 1,
-    }
-}
-
 // One event on an opened sheet.
 pub(crate) fn step(
     sheet: &[u8],
@@ -112,7 +72,10 @@ pub(crate) fn step(
                 }
             }
             Operation::Store => return store(next, run, event, memory),
-            Operation::Dump => return dump(next, run, event, memory, output),
+            Operation::Dump => {
+                let held = run.held;
+                return dump(next, &memory[..held], event, output);
+            }
         },
     }
 }

@@ -5,7 +5,7 @@ use mathlib.Core.Path.{_≡_, sym, ap, _∙_}
 use mathlib.Core.List.{List}
 use Rattle.making.proofs.OneAnswer.{make-one-answer}
 use Rattle.monitor.proofs.OneAnswer.{event-one-answer}
-use Rattle.monitor.specs.declared.Answer.{Answer}
+use Rattle.effects.specs.declared.Answer.{Answer}
 use Rattle.office.specs.Told.{madeOf, answeredOf, runOf, MakeForC, FreshForC, EventForC}
 use Rattle.office.specs.declared.Made.{Made}
 use Rattle.office.specs.declared.Started.{Started}

@@ -16,9 +16,10 @@ use Rattle.rulefile.proofs.AnswerLaws.{file-gives, put-refused, put-kept}
 use Rattle.sheet.specs.Making.{sheetOf, MakePromise}
 use Rattle.sheet.specs.Opening.{openedOf}
 use Rattle.monitor.specs.Event.{turnOf, EventPromise}
-use Rattle.monitor.specs.declared.Answer.{Answer}
-use Rattle.monitor.specs.declared.Answer.the-variants.{Taken, Refused}
-use Rattle.monitor.proofs.AnswerLaws.{turn-refuses, refused-kept}
+use Rattle.effects.specs.declared.Answer.{Answer}
+use Rattle.effects.specs.declared.Answer.the-variants.{Taken, Refused}
+use Rattle.effects.proofs.KeptLaws.{refused-kept}
+use Rattle.monitor.proofs.AnswerLaws.{turn-refuses}
 use Rattle.office.specs.Told.{madeOf, MakeForC, runOf, answeredOf, EventForC, MakeKept, EventKept}
 use Rattle.office.specs.declared.Made.{Made}
 use Rattle.office.specs.declared.Answered.{Answered}

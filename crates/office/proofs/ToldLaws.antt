@@ -15,10 +15,10 @@ use Rattle.rulefile.specs.declared.Written.the-variants.{Done, Refused as Unwri
 use Rattle.sheet.specs.Making.{MakePromise}
 use Rattle.monitor.specs.Fresh.{startOf}
 use Rattle.monitor.specs.Event.{EventPromise}
-use Rattle.monitor.specs.declared.Run.{Run}
+use Rattle.effects.specs.declared.Run.{Run}
 use Rattle.monitor.specs.declared.Start.{Start}
-use Rattle.monitor.specs.declared.Answer.{Answer}
-use Rattle.monitor.specs.declared.Answer.the-variants.{Taken, Refused}
+use Rattle.effects.specs.declared.Answer.{Answer}
+use Rattle.effects.specs.declared.Answer.the-variants.{Taken, Refused}
 use Rattle.office.specs.Told.{MakeForC, FreshForC, EventForC, runOf}
 
 -- making a sheet

@@ -1,7 +1,7 @@
 // What C calls: numbers and byte slices. Each call is one of the house's, and its answer is told in numbers; include/pachallu.h declares them.
 ghost use Rattle.office.specs.Told.{MakeForC, FreshForC, EventForC};
-use monitor::Answer;
-use monitor::Run;
+use effects::Answer;
+use effects::Run;
 use rule::EventNo;
 use rule::StateNo;
 use rule::Verdict;

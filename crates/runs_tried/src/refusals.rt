@@ -2,8 +2,8 @@
 use crate::files;
 use crate::files::front;
 use crate::said;
-use monitor::Answer;
-use monitor::Run;
+use effects::Answer;
+use effects::Run;
 use rule::EventNo;
 use rule::Operation;
 use rule::StateNo;

@@ -3,8 +3,8 @@ use crate::files;
 use crate::files::front;
 use crate::files::made;
 use crate::said;
-use monitor::Answer;
-use monitor::Run;
+use effects::Answer;
+use effects::Run;
 use rule::EventNo;
 use rule::Operation;
 

@@ -1,6 +1,6 @@
 -- `step` meets its contract: one law for each arm. Assumes nothing.
 use borrow.Author.Needs.{needs}
-use Rattle.monitor.proofs.EventLaws.{move-held, step-refused, step-halt, step-store, step-dump}
+use Rattle.monitor.proofs.EventLaws.{move-held, taken-long, step-refused, step-halt, step-store, step-dump}
 use Rattle.monitor.proofs.steps.step.Statement.{statement}
 use Rattle.monitor.proofs.steps.step.Tie as tie
 
@@ -37,8 +37,14 @@ returns-3 c = search (needs, step-store)
 enum-told-3 : tie.Need-enum-told-3
 enum-told-3 c = search needs
 
+slice-reshare-prefix-dump : tie.Need-slice-reshare-prefix-dump
+slice-reshare-prefix-dump c = search (needs, move-held)
+
+slice-aggregate-dump : tie.Need-slice-aggregate-dump
+slice-aggregate-dump c = search (needs, taken-long, move-held)
+
 dump-requires : tie.Need-dump-requires
-dump-requires c κs = search (needs, move-held)
+dump-requires c κs = search needs
 
 same-length-2 : tie.Need-same-length-2
 same-length-2 c = search needs
@@ -64,6 +70,8 @@ step-spec =
     same-length
     returns-3
     enum-told-3
+    slice-reshare-prefix-dump
+    slice-aggregate-dump
     dump-requires
     same-length-2
     same-length-3

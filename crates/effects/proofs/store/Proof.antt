@@ -1,8 +1,8 @@
 -- `store` meets its contract. Assumes nothing.
 use borrow.Author.Needs.{needs}
-use Rattle.monitor.proofs.EventLaws.{store-full, stored}
-use Rattle.monitor.proofs.steps.store.Statement.{statement}
-use Rattle.monitor.proofs.steps.store.Tie as tie
+use Rattle.effects.proofs.EffectLaws.{store-full, stored}
+use Rattle.effects.proofs.store.Statement.{statement}
+use Rattle.effects.proofs.store.Tie as tie
 
 returns : tie.Need-returns
 returns c = search (needs, store-full)

@@ -1,0 +1,72 @@
+-- What an operation does: to the run state, to the memory and to the output.
+-- Assumes nothing.
+use Prim.Native.Nat.{ℕ, _+_}
+use mathlib.Core.Path.{_≡_}
+use mathlib.Core.Bool.{cond}
+use mathlib.Core.List.{List, [], _∷_, _++_}
+use lib.ListN.{length, take, drop, set}
+use lib.Dec.{leb}
+use Rattle.rule.specs.declared.StateNo.{StateNo}
+use Rattle.rule.specs.declared.EventNo.{EventNo}
+use Rattle.rule.specs.declared.Operation.the-variants.{Halt, Store, Dump}
+use Rattle.rule.specs.declared.Refusal.the-variants.{Memory, Room}
+use Rattle.effects.specs.declared.Run.{Run}
+use Rattle.effects.specs.declared.Turn.{Turn}
+use Rattle.effects.specs.declared.Turn.the-variants.{Move, Refused}
+use Rattle.effects.specs.declared.Answer.{Answer}
+use Rattle.effects.specs.declared.Answer.the-variants.{Taken, Refused as Declined}
+
+-- a run at a state with nothing held
+abbrev pub freshRun : StateNo → Run
+freshRun s = record { state = s; held = 0 }
+
+-- 15: operation is store and the memory is full; 16: dump with held + 1 over the output's length
+abbrev pub roomTurn : Turn → (held room space : ℕ) → Turn
+roomTurn (Refused r) held room space = Refused r
+roomTurn (Move Halt t) held room space = Move Halt t
+roomTurn (Move Store t) held room space = cond (leb room held) (Refused Memory) (Move Store t)
+roomTurn (Move Dump t) held room space = cond (leb space held) (Refused Room) (Move Dump t)
+
+-- the answer: a halted event is not held and a stored one is; a dump releases held + 1 and leaves nothing held
+abbrev pub answerIn : Turn → (held : ℕ) → Answer
+answerIn (Refused r) held = Declined r
+answerIn (Move Halt t) held = Taken Halt (record { state = t; held = held }) 0
+answerIn (Move Store t) held = Taken Store (record { state = t; held = held + 1 }) 0
+answerIn (Move Dump t) held = Taken Dump (record { state = t; held = 0 }) (held + 1)
+
+-- the memory after it: store writes one byte, at the place after the held ones
+abbrev pub memoryIn : Turn → (held code : ℕ) → (memory : List ℕ) → List ℕ
+memoryIn (Refused r) held code memory = memory
+memoryIn (Move Halt t) held code memory = memory
+memoryIn (Move Store t) held code memory = set memory held code
+memoryIn (Move Dump t) held code memory = memory
+
+-- the output after it: dump writes the held events and then this one, from the front
+abbrev pub outputIn : Turn → (held code : ℕ) → (memory output : List ℕ) → List ℕ
+outputIn (Refused r) held code memory output = output
+outputIn (Move Halt t) held code memory output = output
+outputIn (Move Store t) held code memory output = output
+outputIn (Move Dump t) held code memory output = (take held memory ++ (code ∷ [])) ++ drop (held + 1) output
+
+-- what a turn promises: the whole answer, and the whole of the memory and the output after it
+pub record TurnPromise (turn : Turn) (run : Run) (e : EventNo) (memory output : List ℕ) (r : Answer) (memory′ output′ : List ℕ) : Type 0 where
+  pub answer : r ≡ answerIn turn (run .held)
+  pub memory-after : memory′ ≡ memoryIn turn (run .held) (e .0) memory
+  pub output-after : output′ ≡ outputIn turn (run .held) (e .0) memory output
+
+-- the promise of a store into a state, and of a dump of the held events
+abbrev pub StorePromise : (next : StateNo) → Run → EventNo → (memory : List ℕ) → Answer → (memory′ : List ℕ) → Type 0
+StorePromise next run e memory r memory′ =
+    TurnPromise (roomTurn (Move Store next) (run .held) (length memory) 0) run e memory [] r memory′ []
+
+abbrev pub DumpPromise : (next : StateNo) → (held : List ℕ) → EventNo → (output : List ℕ) → Answer → (output′ : List ℕ) → Type 0
+DumpPromise next held e output r output′ =
+    TurnPromise (roomTurn (Move Dump next) (length held) 0 (length output)) (record { state = next; held = length held }) e held output r held output′
+
+-- exactly one answer, with exactly one content of the memory and the output, keeps the promise
+pub record OneAnswer (Promise : Answer → List ℕ → List ℕ → Type 0) : Type 0 where
+  pub answer : Answer
+  pub memory : List ℕ
+  pub output : List ℕ
+  pub kept : Promise answer memory output
+  pub only : (r : Answer) (m out : List ℕ) → Promise r m out → (r ≡ answer) × (m ≡ memory) × (out ≡ output)
