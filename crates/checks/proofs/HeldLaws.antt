@@ -1,13 +1,15 @@
 -- What `checked` comes to, return by return; what it comes to of a shape that passed check 3; and the numbers that it gives.
 -- Assumes nothing.
-use mathlib.Core.Path.{_≡_, refl, sym, _∙_}
-use mathlib.Core.Bool.{not}
+use mathlib.Core.Path.{_≡_, _∙_}
+use mathlib.Core.Bool.{true, false, not, _&&_}
 use mathlib.Core.List.{List}
-use Prim.Native.Nat.{ℕ, _≤_, _<_}
+use Prim.Native.Nat.{ℕ, _≤_}
 use native.Mathlib.Omega.{arith}
-use borrow.Author.Tests.{le-leb, lt-leb}
+use borrow.Author.Tests.{le-leb, not-false}
 use Rattle.rule.specs.Drawing.{body}
 use Rattle.rule.specs.Refusals.{firstOf, conditions}
+use lib.Dec.{leb}
+use Rattle.rule.proofs.BoolLaws.{Says, and-says, le-says, in-words}
 use Rattle.rule.proofs.NumberLaws.{Gives, refuse-gives, first-gives, and, all-wider, conditions-give}
 use Rattle.rule.specs.declared.Pair.{Pair}
 use Rattle.rule.specs.declared.Shape.{Shape}
@@ -16,28 +18,36 @@ use Rattle.rule.specs.declared.Verdict.{Verdict}
 use Rattle.rule.specs.declared.Verdict.the-variants.{Refused}
 use Rattle.checks.specs.Checked.{holds, checkedOf}
 
+-- what a shape has that can be held
+pub record Held (s : Shape) : Type 0 where
+  pub few-states : s .states ≤ 64
+  pub some-pairs : 1 ≤ s .pairs
+  pub few-pairs : s .pairs ≤ 8
+
+held-says : (s : Shape) → Says (leb (s .states) 64 && (leb 1 (s .pairs) && leb (s .pairs) 8)) (Held s)
+held-says s =
+    in-words (and-says (le-says _ _) (and-says (le-says _ _) (le-says _ _)))
+    (λ p. record { few-states = p .0; some-pairs = p .1 .0; few-pairs = p .1 .1 })
+    (λ h. (h .few-states, (h .some-pairs, h .few-pairs)))
+
+pub passed : (s : Shape) → not (leb (s .states) 64 && (leb 1 (s .pairs) && leb (s .pairs) 8)) ≡ false
+    → (s .states ≤ 64) × (1 ≤ s .pairs) × (s .pairs ≤ 8)
+passed s h = let p = held-says s .0 (not-false _ h) in (p .few-states, p .some-pairs, p .few-pairs)
+
 module _ (s : Shape) (table : List ℕ) (ps : List Pair) where
-  pub too-many-states : 64 < s .states → Refused Range ≡ checkedOf s table ps
+  pub not-held : not (leb (s .states) 64 && (leb 1 (s .pairs) && leb (s .pairs) 8)) ≡ true → Refused Range ≡ checkedOf s table ps
   unfolding checkedOf holds firstOf
-  too-many-states h = rw (lt-leb (s .states) 64 h)
+  not-held h = rw h
 
-  module _ (few : s .states ≤ 64) where
-    pub no-pair : s .pairs < 1 → Refused Range ≡ checkedOf s table ps
-    unfolding checkedOf holds firstOf
-    no-pair h = rw (le-leb (s .states) 64 few, lt-leb 1 (s .pairs) h)
+  pub held : not (leb (s .states) 64 && (leb 1 (s .pairs) && leb (s .pairs) 8)) ≡ false
+      → {v : Verdict} → v ≡ firstOf (conditions (body s table ps)) → v ≡ checkedOf s table ps
+  unfolding checkedOf holds firstOf
+  held h e = e ∙ rw h
 
-    module _ (some : 1 ≤ s .pairs) where
-      pub too-many-pairs : 8 < s .pairs → Refused Range ≡ checkedOf s table ps
-      unfolding checkedOf holds firstOf
-      too-many-pairs h = rw (le-leb (s .states) 64 few, le-leb 1 (s .pairs) some, lt-leb (s .pairs) 8 h)
-
-      -- of a shape in range: the first of the conditions 5 to 10
-      pub in-range : s .pairs ≤ 8 → checkedOf s table ps ≡ firstOf (conditions (body s table ps))
-      unfolding checkedOf holds firstOf
-      in-range h = rw (le-leb (s .states) 64 few, le-leb 1 (s .pairs) some, le-leb (s .pairs) 8 h)
-
-      pub held : s .pairs ≤ 8 → {v : Verdict} → v ≡ firstOf (conditions (body s table ps)) → v ≡ checkedOf s table ps
-      held h e = e ∙ sym (in-range h)
+  -- of a shape in range: the first of the conditions 5 to 10
+  pub in-range : s .states ≤ 64 → 1 ≤ s .pairs → s .pairs ≤ 8 → checkedOf s table ps ≡ firstOf (conditions (body s table ps))
+  unfolding checkedOf holds firstOf
+  in-range few some fits = rw (le-leb (s .states) 64 few, le-leb 1 (s .pairs) some, le-leb (s .pairs) 8 fits)
 
   -- the numbers that it gives
   pub checked-gives : Gives 3 10 (checkedOf s table ps)

@@ -246,13 +246,8 @@ fn in_order(shape: Shape, table: &[u8], pairs: [Pair; 8]) -> Verdict
 pub fn checked(shape: Shape, table: &[u8], pairs: [Pair; 8]) -> Verdict
     ensures { λ r. ⌜ r ≡ checkedOf shape (now (table .entry)) pairs ⌝ }
 {
-    if Rule::STATES < shape.states {
-        return Verdict::Refused(Refusal::Range);
-    }
-    if shape.pairs < 1 {
-        return Verdict::Refused(Refusal::Range);
-    }
-    if Rule::PAIRS < shape.pairs {
+    let pairs_held = (1 <= shape.pairs) & (shape.pairs <= Rule::PAIRS);
+    if !((shape.states <= Rule::STATES) & pairs_held) {
         return Verdict::Refused(Refusal::Range);
     }
     in_order(shape, table, pairs)

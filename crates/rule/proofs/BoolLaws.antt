@@ -1,8 +1,8 @@
 -- What a test says, as facts. Assumes nothing.
-use Prim.Native.Nat.{ℕ}
+use Prim.Native.Nat.{ℕ, _≤_, _<_}
 use native.Mathlib.Omega.{arith}
-use lib.Dec.{eqb}
-use borrow.Author.Tests.{eqb-true, eq-eqb}
+use lib.Dec.{leb, ltb, eqb}
+use borrow.Author.Tests.{eqb-true, eq-eqb, leb-true, le-leb, ltb-true, lt-ltb}
 use mathlib.Core.Path.{_≡_, refl}
 use mathlib.Core.Bool.{Bool, true, false, not, _&&_, _||_}
 use mathlib.Core.Logic.{_⊎_, inl, inr, ⊎-elim, _↔_}
@@ -30,6 +30,12 @@ itself b = (λ p. p, λ p. p)
 
 pub eq-says : (x y : ℕ) → Says (eqb x y) (x ≡ y)
 eq-says x y = (eqb-true x y, eq-eqb x y)
+
+pub le-says : (x y : ℕ) → Says (leb x y) (x ≤ y)
+le-says x y = (leb-true x y, le-leb x y)
+
+pub lt-says : (x y : ℕ) → Says (ltb x y) (x < y)
+lt-says x y = (ltb-true x y, lt-ltb x y)
 
 pub and-says : {A B : Type 0} {a b : Bool} → Says a A → Says b B → Says (a && b) (A × B)
 and-says {A} {B} {a} {b} f g = (to a f, λ p. rw (f .1 (p .0), g .1 (p .1)))

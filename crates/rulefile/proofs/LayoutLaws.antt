@@ -51,22 +51,18 @@ length-trailerOut s = refl
 -- the refusals 2 and 3, return by return
 
 module _ (s : Shape) (spare : ℕ) where
-  pub class-low : s .class < 1 → Refused Class ≡ firstOf (class s ∷ range s spare ∷ [])
+  pub class-wrong : not (leb 1 (s .class) && leb (s .class) 4) ≡ true → Refused Class ≡ firstOf (class s ∷ range s spare ∷ [])
   unfolding firstOf classed
-  class-low h = search tests
+  class-wrong h = rw h
 
-  pub class-high : 1 ≤ s .class → 4 < s .class → Refused Class ≡ firstOf (class s ∷ range s spare ∷ [])
-  unfolding firstOf classed
-  class-high l h = search tests
-
-  module _ (low : 1 ≤ s .class) (high : s .class ≤ 4) {ok : Bool} (is : ok ≡ ranged s spare) where
+  module _ (right : not (leb 1 (s .class) && leb (s .class) 4) ≡ false) {ok : Bool} (is : ok ≡ ranged s spare) where
     pub range-wrong : not ok ≡ true → Refused Range ≡ firstOf (class s ∷ range s spare ∷ [])
     unfolding firstOf classed
-    range-wrong h = rw (le-leb 1 (s .class) low, le-leb (s .class) 4 high, ← is, not-true ok h)
+    range-wrong h = rw (right, ← is, not-true ok h)
 
     pub range-right : not ok ≡ false → Sound ≡ firstOf (class s ∷ range s spare ∷ [])
     unfolding firstOf classed
-    range-right h = rw (le-leb 1 (s .class) low, le-leb (s .class) 4 high, ← is, not-false ok h)
+    range-right h = rw (right, ← is, not-false ok h)
 
 -- a third condition after two of which the first refusal is v
 

@@ -6,11 +6,11 @@ use mathlib.Core.Bool.{Bool, true, false, not, _&&_, _||_}
 use mathlib.Core.Logic.{_⊎_, _↔_}
 use Prim.Native.Nat.{ℕ, _+_, _-_, _*_, _≤_, _<_}
 use native.Mathlib.Nat.{mul-le-mul}
-use borrow.Author.Tests.{leb-true, le-leb, ltb-true, lt-ltb, not-false}
+use borrow.Author.Tests.{not-false}
 use lib.Dec.{leb, ltb, eqb}
 use lib.ListN.{length, getD}
 use Rattle.rule.specs.Refusals.{refuseIf, firstOf}
-use Rattle.rule.proofs.BoolLaws.{Says, and-says, or-says, eq-says, in-words}
+use Rattle.rule.proofs.BoolLaws.{Says, and-says, or-says, eq-says, le-says, lt-says, in-words}
 use Rattle.rule.proofs.RefusalLaws.{refuse-sound, first-sound}
 use Rattle.rule.specs.declared.Shape.{Shape}
 use Rattle.rule.specs.declared.Refusal.{Refusal}
@@ -20,12 +20,6 @@ use Rattle.rule.specs.declared.Verdict.the-variants.{Sound, Refused}
 use Rattle.rulefile.specs.Layout.{framed, classed, class, ranged, range, placed, distance, pairsBack, tableBack}
 use Rattle.rulefile.specs.Writing.{noted}
 use Rattle.rulefile.specs.declared.Trailer.{Trailer}
-
-pub le-says : (x y : ℕ) → Says (leb x y) (x ≤ y)
-le-says x y = (leb-true x y, le-leb x y)
-
-pub lt-says : (x y : ℕ) → Says (ltb x y) (x < y)
-lt-says x y = (ltb-true x y, lt-ltb x y)
 
 -- a condition that is refused where its test fails
 pub passed : (r : Refusal) {b : Bool} {A : Type 0} → Says b A → (refuseIf (not b) r ≡ Sound) ↔ A

@@ -56,49 +56,24 @@ pub(crate) fn trailer_of(bytes: &[u8]) -> Trailer
     }
 }
 
-// Whether N, K, m, the initial state and the spare byte are in range, and m is 1 where the class has one pair.
+// Whether N, K, m, the initial state and the spare byte are in range, and m is 1 where the class has one pair. The tests are joined by
+// `&`, as in the definition: none of them can fail, and there is no branch for each.
 fn ranged(shape: Shape, spare: u8) -> bool
     ensures { λ r. ⌜ r ≡ Rattle.rulefile.specs.Layout.ranged shape spare ⌝ }
 {
+    let states = (1 <= shape.states) & (shape.states <= Rule::STATES);
+    let events = (1 <= shape.events) & (shape.events <= Rule::EVENTS);
+    let pairs = (1 <= shape.pairs) & (shape.pairs <= Rule::PAIRS);
     let initial = shape.initial;
-    if shape.states < 1 {
-        return false;
-    }
-    if Rule::STATES < shape.states {
-        return false;
-    }
-    if shape.events < 1 {
-        return false;
-    }
-    if Rule::EVENTS < shape.events {
-        return false;
-    }
-    if shape.pairs < 1 {
-        return false;
-    }
-    if Rule::PAIRS < shape.pairs {
-        return false;
-    }
-    if shape.states <= initial.0 {
-        return false;
-    }
-    if spare != 0 {
-        return false;
-    }
-    if shape.class == 3 {
-        return true;
-    }
-    shape.pairs == 1
+    let start = (initial.0 < shape.states) & (spare == 0);
+    states & (events & (pairs & (start & ((shape.class == 3) | (shape.pairs == 1)))))
 }
 
 // The refusals 2 and 3.
 pub fn shaped(shape: Shape, spare: u8) -> Verdict
     ensures { λ r. ⌜ r ≡ firstOf (class shape ∷ range shape spare ∷ []) ⌝ }
 {
-    if shape.class < 1 {
-        return Verdict::Refused(Refusal::Class);
-    }
-    if 4 < shape.class {
+    if !((1 <= shape.class) & (shape.class <= 4)) {
         return Verdict::Refused(Refusal::Class);
     }
     if !ranged(shape, spare) {

@@ -13,8 +13,7 @@ use lib.ListN.{length}
 use mir.Val.{Fits}
 use mir.Syntax.{w8, w64}
 use borrow.Author.Tests.{lt-leb, le-ltb, ne-eqb, leb-false, ltb-false, eqb-false, not-true, not-false}
-use Rattle.rule.proofs.BoolLaws.{Says, and-says, eq-says, in-words}
-use Rattle.rulefile.proofs.SoundLaws.{le-says, lt-says}
+use Rattle.rule.proofs.BoolLaws.{Says, and-says, eq-says, le-says, lt-says, in-words}
 use Rattle.sheet.specs.Given.{BadSheet, short, unmarked, no-states, many-states, no-events, many-events, no-initial, wrong-distance, wrong-length, GoodSheet}
 use Rattle.sheet.specs.Opening.{back, headIn, wholeSize, inRange, opens, openedOf}
 use Rattle.sheet.specs.declared.Head.{Head}

@@ -19,23 +19,13 @@ pub enum Opened {
     Refused,
 }
 
-// Whether N and K are in range, and the initial state is one of the N.
+// Whether N and K are in range, and the initial state is one of the N: the tests of the definition, joined as there.
 fn in_range(states: u8, events: u8, initial: u8) -> bool
     ensures { λ r. ⌜ r ≡ inRange states events initial ⌝ }
 {
-    if states < 1 {
-        return false;
-    }
-    if Rule::STATES < states {
-        return false;
-    }
-    if events < 1 {
-        return false;
-    }
-    if Rule::EVENTS < events {
-        return false;
-    }
-    initial < states
+    let cells = (1 <= states)
+        & ((states <= Rule::STATES) & ((1 <= events) & (events <= Rule::EVENTS)));
+    cells & (initial < states)
 }
 
 // The length of a sheet of so many states and events: its cells, and six bytes.
