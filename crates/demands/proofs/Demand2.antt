@@ -4,15 +4,14 @@
 -- `demand-2`: of every sheet that is made. `every-rule`: which rules have their sheet made. `round-trips`: of rule files.
 -- Assumes nothing.
 use Prim.Native.Nat.{ℕ, _+_, _*_, _/_, _%_, _≤_, _<_}
-use native.Mathlib.Omega.{arith}
-use mathlib.Core.Path.{_≡_, refl, sym, ap, _∙_}
+use mathlib.Core.Path.{_≡_, ap, _∙_}
 use mathlib.Core.Bool.{true}
 use mathlib.Core.Logic.{_↔_}
 use mathlib.Core.List.{List, _++_}
 use lib.ListN.{length, getD, drop, take}
 use Rattle.octets.specs.Numbers.{Bytes}
 use Rattle.rule.specs.Drawing.{Drawing, states, events, initial, next, stateNo, drawn, ruleOf, Same}
-use Rattle.rule.specs.Operations.{markOf, operation}
+use Rattle.rule.specs.Operations.{operation}
 use Rattle.rule.specs.Stopping.{stopping}
 use Rattle.rule.specs.Classes.{OfClass}
 use Rattle.rule.specs.Constructions.{PublishedMove, PublishedStop}
@@ -27,7 +26,6 @@ use Rattle.rule.proofs.ConstructionLaws.{published-moves, published-stops}
 use Rattle.rulefile.specs.Layout.{drawingIn, fileOf}
 use Rattle.rulefile.specs.Reading.{verdictOn, readingOf}
 use Rattle.rulefile.specs.Writing.{verdictOf, WritePromise, Held}
-use Rattle.rulefile.specs.declared.Reading.{Reading}
 use Rattle.rulefile.specs.declared.Written.{Written}
 use Rattle.rulefile.specs.declared.Written.the-variants.{Done, Refused}
 use Rattle.rulefile.specs.Given.{Row, NoneBefore, NoRow}
@@ -38,7 +36,6 @@ use Rattle.rulefile.proofs.RoundTrips.{read-written, written-read, same-rule}
 use Rattle.sheet.specs.Given.{making}
 use Rattle.sheet.specs.Making.{sheetOf, MakePromise}
 use Rattle.sheet.specs.Opening.{openedOf}
-use Rattle.sheet.specs.declared.Head.{Head}
 use Rattle.sheet.specs.declared.Opened.the-variants.{Sheet}
 use Rattle.sheet.proofs.MakingLaws.{sheet-opens, cell-next, cell-operation}
 use Rattle.sheet.proofs.FoundLaws.{sound-formed}

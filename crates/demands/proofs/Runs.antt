@@ -6,13 +6,12 @@ use mathlib.Core.List.{List, [], _∷_, map}
 use Rattle.octets.specs.Numbers.{valueOf, digits}
 use Rattle.rule.specs.Sets.{has, insert, including, meetsBelow, meets, isEmpty, namesPast}
 use Rattle.rule.specs.Reach.{target, withMoves, movedBelow, movedSet, spread, reachedWithin}
-use Rattle.rule.specs.Drawing.{Drawing, eventNo}
+use Rattle.rule.specs.Drawing.{eventNo}
 use Rattle.rule.specs.Operations as paper
 use Rattle.rule.specs.Operations.{smallestOf, reachOf, operationAt}
 use Rattle.rule.specs.Stopping.{stopsBy}
 use Rattle.rule.specs.Classes.{movesInto, movesOut, forbids, forbidsSome}
 use Rattle.rule.specs.Refusals.{firstOf, firstBelow, firstCell, entries, members, exceeds, excess, moves, stopped, empties}
-use Rattle.rule.specs.declared.Verdict.{Verdict}
 use Rattle.rule.specs.declared.Verdict.the-variants.{Sound}
 use Rattle.rulefile.specs.Layout.{trailerOf, upTo, drawingIn, framed, classed, ranged, placed, flatUpTo, trailerOut, fileOf}
 use Rattle.rulefile.specs.Reading.{verdictOn}
@@ -20,7 +19,7 @@ use Rattle.sheet.specs.Making.{sheetOf}
 use Rattle.sheet.specs.Opening.{inRange, opens, openedOf}
 use Rattle.monitor.specs.Event.{cellTurn, lookOf}
 use Rattle.history.specs.History.{History, call}
-use Rattle.demands.specs.Marked.{A, S, G, O, D, Stand, eight, begin, one, all, markOf, marked, found, wanted}
+use Rattle.demands.specs.Marked.{A, S, G, O, D, Stand, eight, one, all, markOf, marked, found, wanted}
 
 -- the layout of setup rule A, byte for byte
 pub file-A : fileOf A ≡ 1 ∷ 2 ∷ 0 ∷ 2 ∷ 0 ∷ 2 ∷ 2 ∷ 2 ∷ 2 ∷ 1 ∷ 0 ∷ 0 ∷ 0 ∷ 0 ∷ 0 ∷ 0 ∷ 0 ∷ 0 ∷ 0 ∷ 0 ∷ 0 ∷ 0 ∷ 0 ∷ 0 ∷ 0 ∷ 4 ∷ 3 ∷ 3 ∷ 1 ∷ 0 ∷ 0 ∷ 37 ∷ 0 ∷ 28 ∷ 0 ∷ 72 ∷ 82 ∷ []

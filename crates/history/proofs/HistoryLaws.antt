@@ -24,18 +24,16 @@ use Rattle.sheet.specs.Opening.{openedOf}
 use Rattle.sheet.specs.declared.Head.{Head}
 use Rattle.sheet.specs.declared.Opened.the-variants.{Sheet}
 use Rattle.effects.specs.Effects.{freshRun}
-use Rattle.monitor.specs.Fresh.{startBy, startOf}
-use Rattle.effects.specs.Effects.{roomTurn, answerIn, memoryIn, outputIn, TurnPromise}
-use Rattle.monitor.specs.Event.{operationOf, cellTurn, lookOf, turnBy, turnOf, stepTurn, EventPromise}
+use Rattle.monitor.specs.Fresh.{startBy}
+use Rattle.effects.specs.Effects.{roomTurn, answerIn, memoryIn, outputIn}
+use Rattle.monitor.specs.Event.{operationOf, cellTurn, lookOf, turnOf, stepTurn}
 use Rattle.effects.specs.declared.Run.{Run}
 use Rattle.monitor.specs.declared.Start.{Start}
 use Rattle.effects.specs.declared.Turn.{Turn}
 use Rattle.effects.specs.declared.Turn.the-variants.{Move, Refused}
-use Rattle.effects.specs.declared.Answer.{Answer}
-use Rattle.effects.specs.declared.Answer.the-variants.{Taken}
-use Rattle.history.specs.Course.{Entry, codes, releasedBy, heldBy, Course, start, step, Kept, KeptSharp}
+use Rattle.history.specs.Course.{Entry, releasedBy, heldBy, Course, start, step, Kept, KeptSharp}
 use Rattle.history.specs.History.{History, fresh, call, others, logAfter, runAfter, releasedAfter}
-use Rattle.history.proofs.CourseLaws.{course-kept, course-sharp, halted, halt-store, halt-dump, store-dump}
+use Rattle.history.proofs.CourseLaws.{course-kept, course-sharp, halted, halt-store, store-dump}
 
 -- the sheet is the machine's: it opens as the machine's numbers, and each cell is the machine's move
 pub record Drawn (m : Machine) (sheet : List ℕ) : Type 0 where

@@ -11,7 +11,6 @@ use Rattle.monitor.specs.Event.{EventPromise}
 use Rattle.effects.specs.declared.Run.{Run}
 use Rattle.effects.specs.declared.Answer.{Answer}
 use Rattle.effects.specs.declared.Answer.the-variants.{Taken, Refused}
-use Rattle.monitor.specs.declared.Start.{Start}
 use Rattle.history.specs.Course.{Entry}
 
 -- what a call adds to the log: nothing where it is refused

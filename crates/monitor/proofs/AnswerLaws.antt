@@ -20,7 +20,7 @@ use Rattle.sheet.specs.declared.Head.{Head}
 use Rattle.sheet.specs.declared.Opened.{Opened}
 use Rattle.sheet.specs.declared.Opened.the-variants.{Sheet, Refused as Shut}
 use Rattle.monitor.specs.Fresh.{startBy}
-use Rattle.monitor.specs.Event.{operationOf, cellTurn, lookOf, turnBy, turnOf}
+use Rattle.monitor.specs.Event.{operationOf, cellTurn, lookOf, turnBy}
 use Rattle.effects.specs.Effects.{freshRun, roomTurn}
 use Rattle.effects.specs.declared.Run.{Run}
 use Rattle.effects.specs.declared.Turn.{Turn}

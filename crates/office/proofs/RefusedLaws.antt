@@ -1,13 +1,9 @@
 -- What a refused call from C leaves: every buffer as it was, and the run state that was given.
 -- Assumes nothing.
-use Prim.Native.Nat.{ℕ, _≤_}
-use mathlib.Core.Path.{_≡_, refl, sym, ap, _∙_}
-use mathlib.Core.Logic.{_⊎_}
+use Prim.Native.Nat.{ℕ}
+use mathlib.Core.Path.{_≡_, sym, ap}
 use mathlib.Core.List.{List}
 use Rattle.rule.specs.Drawing.{eventNo}
-use Rattle.rule.specs.Refusals.{toldOf, Numbered}
-use Rattle.rule.specs.declared.Refusal.{Refusal}
-use Rattle.rule.specs.declared.Refusal.the-variants.{Room}
 use Rattle.rulefile.specs.Layout.{drawingIn}
 use Rattle.rulefile.specs.Reading.{verdictOn}
 use Rattle.rulefile.specs.declared.Written.{Written}

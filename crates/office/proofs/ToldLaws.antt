@@ -1,7 +1,7 @@
 -- Each return of the calls for C: the answer behind it, told in numbers.
 -- Assumes nothing.
 use Prim.Native.Nat.{ℕ}
-use mathlib.Core.Path.{_≡_, refl}
+use mathlib.Core.Path.{_≡_}
 use mathlib.Core.List.{List}
 use Rattle.rule.specs.Drawing.{eventNo}
 use Rattle.rule.specs.Operations.{markOf}

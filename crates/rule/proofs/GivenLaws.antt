@@ -2,9 +2,8 @@
 -- its places exactly when those are the first. Assumes nothing.
 use Prim.Native.Nat.{ℕ, _≤_, _<_}
 use native.Mathlib.Omega.{arith}
-use mathlib.Core.Path.{_≡_, refl, sym, ap, _∙_}
+use mathlib.Core.Path.{_≡_, refl, ap}
 use mathlib.Core.Bool.{Bool, true, _&&_}
-use mathlib.Core.List.{[], _∷_}
 use mathlib.Core.Logic.{_⊎_, inl, inr, ⊎-elim, _↔_}
 use lib.ListN.{length}
 use lib.Dec.{leb}
@@ -16,7 +15,7 @@ use Rattle.rule.specs.Operations.{reachOf}
 use Rattle.rule.specs.Stopping.{stopsBy}
 use Rattle.rule.specs.Classes.{movesInto, movesOut, forbids, forbidsSome}
 use Rattle.rule.specs.Published.{In, Out}
-use Rattle.rule.specs.Refusals.{refuseIf, firstBelow, firstCell, toldOf, entryAt, entries, memberAt, members, exceeds, excess, moveAt, moves, stopAt, stopped, emptyAt, empties, firstOf, conditions}
+use Rattle.rule.specs.Refusals.{refuseIf, firstBelow, firstCell, toldOf, entries, memberAt, members, exceeds, excess, moves, stopped, empties, firstOf, conditions}
 use Rattle.rule.specs.Given.{FirstCell, LowestPair, NoCell, NoPair, BadEntry, Names, BadPair, BadSide, by-R, only-P, BadMember, TooMuch, with-R, with-P, Forbidden, into-P, out-of-R, StopsBy, BothEmpty}
 use Rattle.rule.specs.declared.Pair.{Pair}
 use Rattle.rule.specs.declared.Refusal.{Refusal}

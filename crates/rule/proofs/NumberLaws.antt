@@ -1,8 +1,8 @@
 -- Which numbers the conditions of a drawing give: 5 to 10, each its own.
 -- Assumes nothing.
-use Prim.Native.Nat.{ℕ, zero, suc, _≤_, _<_}
+use Prim.Native.Nat.{ℕ, zero, suc, _≤_}
 use native.Mathlib.Omega.{arith}
-use mathlib.Core.Path.{_≡_, refl, sym, ap, _∙_}
+use mathlib.Core.Path.{_≡_, ap}
 use mathlib.Core.Bool.{Bool, true, false, _&&_}
 use mathlib.Core.List.{List, [], _∷_}
 use lib.Dec.{leb}
@@ -11,7 +11,7 @@ use Rattle.rule.specs.Drawing.{Drawing, stateNo, eventNo, states, initia
 use Rattle.rule.specs.Operations.{reachOf}
 use Rattle.rule.specs.Stopping.{stopsBy}
 use Rattle.rule.specs.Classes.{forbidsSome}
-use Rattle.rule.specs.Refusals.{toldOf, Numbered, refuseIf, orElse, firstOf, firstBelow, firstCell, entries, members, exceeds, excess, moves, stopped, empties, conditions}
+use Rattle.rule.specs.Refusals.{Numbered, refuseIf, orElse, firstOf, firstBelow, firstCell, entries, members, exceeds, excess, moves, stopped, empties, conditions}
 use Rattle.rule.specs.declared.Refusal.{Refusal}
 use Rattle.rule.specs.declared.Refusal.the-variants.{Entry, Member, Excess, Move, Stopping, Empty}
 use Rattle.rule.specs.declared.Verdict.{Verdict}

@@ -6,7 +6,7 @@ use native.Mathlib.Numerals.{add-one}
 use mathlib.Core.Path.{_≡_, refl, ap, _∙_}
 use mathlib.Core.Bool.{Bool, true, false}
 use mathlib.Core.List.{List, [], _∷_, _++_}
-use mathlib.Core.Logic.{_⊎_, inl, inr, _↔_}
+use mathlib.Core.Logic.{_↔_}
 use Rattle.rule.specs.Refusals.{refuseIf, orElse, firstOf, firstBelow, firstCell}
 use Rattle.rule.specs.Given.{FirstBelow, FirstRefused}
 use Rattle.rule.specs.declared.Refusal.{Refusal}

@@ -2,10 +2,10 @@
 -- Assumes nothing.
 use Prim.Native.Nat.{ℕ, _<_}
 use mathlib.Core.Path.{_≡_}
-use mathlib.Core.Bool.{Bool, true, false, cond, not, _&&_, _||_}
+use mathlib.Core.Bool.{Bool, true, false, not, _&&_, _||_}
 use mathlib.Core.List.{List, [], _∷_}
 use lib.Dec.{eqb}
-use Rattle.rule.specs.Sets.{has, isEmpty}
+use Rattle.rule.specs.Sets.{has}
 use Rattle.rule.specs.Drawing.{Drawing, states, events, count, next, pairAt}
 use Rattle.rule.specs.declared.Pair.{Pair}
 

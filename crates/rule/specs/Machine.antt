@@ -10,7 +10,7 @@ use Rattle.rule.specs.Drawing.{Drawing, states, events, initial, next}
 use Rattle.rule.specs.Acceptance.{meetsAll}
 use Rattle.rule.specs.Operations.{operationAt}
 use Rattle.rule.specs.declared.Operation.{Operation}
-use Rattle.rule.specs.declared.Operation.the-variants.{Halt, Store, Dump}
+use Rattle.rule.specs.declared.Operation.the-variants.{Halt, Dump}
 
 pub record Machine : Type 0 where
   pub states : ℕ

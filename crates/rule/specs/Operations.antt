@@ -1,7 +1,7 @@
 -- Operations, ordered halt < store < dump: of a pair at the target of a move, of all pairs, of a move.
 -- Assumes nothing.
 use Prim.Native.Nat.{ℕ, _-_}
-use mathlib.Core.Bool.{Bool, cond}
+use mathlib.Core.Bool.{cond}
 use mathlib.Core.List.{List, [], _∷_}
 use Rattle.rule.specs.Sets.{has, meets}
 use Rattle.rule.specs.Reach.{reachedWithin}

@@ -3,7 +3,7 @@
 -- Assumes nothing.
 use Prim.Native.Nat.{ℕ, _≤_, _<_}
 use mathlib.Core.Path.{_≡_}
-use mathlib.Core.Bool.{Bool, true, false}
+use mathlib.Core.Bool.{true, false}
 use Rattle.rule.specs.Sets.{has}
 use Rattle.rule.specs.Reach.{Leads}
 use Rattle.rule.specs.Drawing.{Drawing, count, events, next, pairAt}

@@ -9,7 +9,6 @@ use Rattle.rule.specs.Drawing.{Drawing, states, events, count, initial, 
 use Rattle.rule.specs.Operations.{reachOf}
 use Rattle.rule.specs.Stopping.{stopsBy}
 use Rattle.rule.specs.Classes.{forbidsSome}
-use Rattle.rule.specs.declared.Pair.{Pair}
 use Rattle.rule.specs.declared.Told.{Told}
 use Rattle.rule.specs.declared.Refusal.{Refusal}
 use Rattle.rule.specs.declared.Refusal.the-variants.{Frame, Class, Range, Distance, Entry, Member, Excess, Move, Stopping, Empty, Sheet, Run, Code, Cell, Memory, Room}

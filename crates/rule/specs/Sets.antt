@@ -1,7 +1,7 @@
 -- Sets of states. A set is a number: state s is a member when bit s is 1.
 -- Assumes nothing.
 use Prim.Native.Nat.{ℕ, zero, suc, _+_, _/_, _%_, _^_}
-use mathlib.Core.Bool.{Bool, true, false, cond, not, _&&_, _||_}
+use mathlib.Core.Bool.{Bool, false, cond, not, _&&_, _||_}
 use lib.Dec.{eqb, ltb}
 
 -- bit s of x, 0 or 1

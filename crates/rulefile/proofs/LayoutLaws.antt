@@ -1,9 +1,9 @@
 -- Laws of the layout: sizes, what passed checks say, and what the checks of a head come to.
 -- Assumes nothing.
 use mathlib.Core.Path.{_≡_, refl, sym, ap, _∙_}
-use mathlib.Core.List.{List, [], _∷_, _++_}
-use mathlib.Core.Bool.{Bool, true, false, not, _&&_, _||_}
-use Prim.Native.Nat.{ℕ, zero, suc, _+_, _-_, _*_, _≤_, _<_}
+use mathlib.Core.List.{List, [], _∷_}
+use mathlib.Core.Bool.{Bool, true, false, not, _&&_}
+use Prim.Native.Nat.{ℕ, _-_, _*_, _≤_, _<_}
 use native.Mathlib.Nat.{mul-le-mul}
 use native.Mathlib.Omega.{arith}
 use borrow.Author.Tests.{le-leb, lt-leb, le-ltb, lt-ltb, eq-eqb, ne-eqb, not-true, not-false}
@@ -13,7 +13,7 @@ use lib.Seq.{getD-take}
 use Rattle.octets.specs.Numbers.{digits}
 use Rattle.octets.proofs.NumberLaws.{length-digits}
 use Rattle.rule.specs.Drawing.{noPair}
-use Rattle.rule.specs.Refusals.{refuseIf, orElse, firstOf}
+use Rattle.rule.specs.Refusals.{refuseIf, firstOf}
 use Rattle.rule.proofs.RefusalLaws.{append-hit, append-more, first-one}
 use Rattle.rule.specs.declared.Pair.{Pair}
 use Rattle.rule.specs.declared.Shape.{Shape}
@@ -21,7 +21,7 @@ use Rattle.rule.specs.declared.Refusal.{Refusal}
 use Rattle.rule.specs.declared.Refusal.the-variants.{Class, Range, Distance}
 use Rattle.rule.specs.declared.Verdict.{Verdict}
 use Rattle.rule.specs.declared.Verdict.the-variants.{Sound, Refused}
-use Rattle.rulefile.specs.Layout.{classed, class, ranged, range, placed, distance, pairOut, pairsOut, trailerOut}
+use Rattle.rulefile.specs.Layout.{classed, class, ranged, range, pairOut, pairsOut, trailerOut}
 use Rattle.rulefile.specs.Writing.{noted}
 use Rattle.rulefile.proofs.ListLaws.{length-flatUpTo, flat-ext}
 

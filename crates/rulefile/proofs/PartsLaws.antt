@@ -1,10 +1,9 @@
 -- What a file that was found sound has: the facts that callers of `parts` and `read` need.
 -- Assumes nothing.
 use mathlib.Core.Path.{_≡_, refl, sym, ap, subst⁻¹, _∙_}
-use mathlib.Core.List.{List, [], _∷_, _++_}
-use mathlib.Core.Logic.{⊎-elim}
-use Prim.Native.Nat.{ℕ, zero, suc, _+_, _-_, _*_, _^_, _≤_, _<_}
-use native.Mathlib.Nat.{lt-of-lt-of-le, pow-le-pow-right, eq-or-lt-of-le, le-of-suc-le-suc, not-suc-le-zero}
+use mathlib.Core.List.{List}
+use Prim.Native.Nat.{ℕ, _+_, _-_, _*_, _^_, _≤_, _<_}
+use native.Mathlib.Nat.{lt-of-lt-of-le, pow-le-pow-right}
 use native.Mathlib.Decide.{decLt}
 use native.Mathlib.Omega.{arith}
 use lib.Dec.{lit<}
@@ -12,13 +11,10 @@ use lib.ListN.{length, getD, take, drop, length-take, length-drop, List·getD-eq
 use lib.Seq.{length-take-le}
 use Rattle.octets.specs.Numbers.{Bytes, valueOf}
 use Rattle.octets.proofs.NumberLaws.{bytes-take, bytes-drop, valueOf-lt}
-use Rattle.octets.proofs.ListLaws.{part-length}
-use Rattle.rule.specs.Drawing.{Drawing, body, noPair, padded}
+use Rattle.rule.specs.Drawing.{noPair, padded}
 use Rattle.rule.specs.Refusals.{firstOf, conditions}
-use Rattle.rule.proofs.RefusalLaws.{first-sound, append-more}
+use Rattle.rule.proofs.RefusalLaws.{first-sound}
 use Rattle.rule.specs.declared.Pair.{Pair}
-use Rattle.rule.specs.declared.Shape.{Shape}
-use Rattle.rule.specs.declared.Refusal.{Refusal}
 use Rattle.rule.specs.declared.Refusal.the-variants.{Frame, Class, Range, Distance}
 use Rattle.rule.specs.declared.Verdict.{Verdict}
 use Rattle.rule.specs.declared.Verdict.the-variants.{Sound, Refused}

@@ -1,25 +1,23 @@
 -- Laws of reading: what looking at a file comes to, return by return.
 -- Assumes nothing.
-use mathlib.Core.Path.{_≡_, refl, sym, ap, _∙_}
-use mathlib.Core.List.{List, [], _∷_, _++_}
+use mathlib.Core.Path.{_≡_, sym, ap, _∙_}
+use mathlib.Core.List.{List, [], _∷_}
 use mathlib.Core.Bool.{Bool, true, false, not}
-use Prim.Native.Nat.{ℕ, _+_, _-_, _*_, _≤_, _<_}
+use Prim.Native.Nat.{ℕ, _-_, _*_, _≤_}
 use native.Mathlib.Omega.{arith}
 use borrow.Author.Tests.{not-true, not-false}
 use lib.ListN.{length, take, drop, replicate}
-use lib.Seq.{length-take-le}
 use Rattle.octets.specs.Copies.{copied}
 use Rattle.octets.proofs.ListLaws.{tail-part, part-length}
-use Rattle.rule.specs.Drawing.{Drawing, body, noPair, padded, ruleOf, zeroRule}
-use Rattle.rule.specs.Refusals.{refuseIf, firstOf, conditions}
+use Rattle.rule.specs.Drawing.{body, noPair, padded, ruleOf, zeroRule}
+use Rattle.rule.specs.Refusals.{firstOf, conditions}
 use Rattle.rule.proofs.RefusalLaws.{first-hit, first-more, append-hit, append-more}
 use Rattle.rule.specs.declared.Pair.{Pair}
-use Rattle.rule.specs.declared.Shape.{Shape}
 use Rattle.rule.specs.declared.Refusal.{Refusal}
 use Rattle.rule.specs.declared.Refusal.the-variants.{Frame}
 use Rattle.rule.specs.declared.Verdict.{Verdict}
 use Rattle.rule.specs.declared.Verdict.the-variants.{Sound, Refused}
-use Rattle.rulefile.specs.Layout.{trailerOf, trailerIn, framed, frame, class, range, distance, pairsBack, tableBack, pairIn, pairBytes, upTo, drawingIn}
+use Rattle.rulefile.specs.Layout.{trailerOf, trailerIn, framed, frame, class, range, distance, tableBack, pairIn, pairBytes, upTo, drawingIn}
 use Rattle.rulefile.specs.Reading.{verdictOn, partsBy, partsOf, readingBy, readingOf}
 use Rattle.rulefile.specs.declared.Trailer.{Trailer}
 use Rattle.rulefile.specs.declared.Contents.{Contents}

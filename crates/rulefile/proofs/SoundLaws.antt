@@ -1,13 +1,12 @@
 -- What a file or a rule has that passed a check: each condition 1 to 4 in plain words.
 -- Assumes nothing.
-use mathlib.Core.Path.{_≡_, refl, sym, ap, _∙_}
-use mathlib.Core.List.{List, [], _∷_, _++_}
-use mathlib.Core.Bool.{Bool, true, false, not, _&&_, _||_}
+use mathlib.Core.Path.{_≡_, ap}
+use mathlib.Core.List.{List, [], _∷_}
+use mathlib.Core.Bool.{Bool, false, not}
 use mathlib.Core.Logic.{_⊎_, _↔_}
-use Prim.Native.Nat.{ℕ, _+_, _-_, _*_, _≤_, _<_}
+use Prim.Native.Nat.{ℕ, _-_, _*_, _≤_, _<_}
 use native.Mathlib.Nat.{mul-le-mul}
 use borrow.Author.Tests.{not-false}
-use lib.Dec.{leb, ltb, eqb}
 use lib.ListN.{length, getD}
 use Rattle.rule.specs.Refusals.{refuseIf, firstOf}
 use Rattle.rule.proofs.BoolLaws.{Says, and-says, or-says, eq-says, le-says, lt-says, in-words}
@@ -15,8 +14,7 @@ use Rattle.rule.proofs.RefusalLaws.{refuse-sound, first-sound}
 use Rattle.rule.specs.declared.Shape.{Shape}
 use Rattle.rule.specs.declared.Refusal.{Refusal}
 use Rattle.rule.specs.declared.Refusal.the-variants.{Class, Range, Distance}
-use Rattle.rule.specs.declared.Verdict.{Verdict}
-use Rattle.rule.specs.declared.Verdict.the-variants.{Sound, Refused}
+use Rattle.rule.specs.declared.Verdict.the-variants.{Sound}
 use Rattle.rulefile.specs.Layout.{framed, classed, class, ranged, range, placed, distance, pairsBack, tableBack}
 use Rattle.rulefile.specs.Writing.{noted}
 use Rattle.rulefile.specs.declared.Trailer.{Trailer}

@@ -1,6 +1,6 @@
 -- Laws of writing: what putting bytes into an output comes to, and what writing a rule does, return by return.
 -- Assumes nothing.
-use mathlib.Core.Path.{_≡_, refl, sym, ap, _∙_}
+use mathlib.Core.Path.{_≡_, sym, ap, _∙_}
 use mathlib.Core.List.{List, [], _∷_, _++_}
 use Prim.Native.Nat.{ℕ, _+_, _-_, _*_, _≤_, _<_}
 use native.Mathlib.Omega.{arith}
@@ -21,7 +21,6 @@ use Rattle.rule.specs.declared.Verdict.{Verdict}
 use Rattle.rule.specs.declared.Verdict.the-variants.{Sound, Refused as Unsound}
 use Rattle.rulefile.specs.Layout.{class, range, pairsOut, trailerOut, fileOf}
 use Rattle.rulefile.specs.Writing.{noted, verdictOf, PutPromise}
-use Rattle.rulefile.specs.declared.Written.{Written}
 use Rattle.rulefile.specs.declared.Written.the-variants.{Done, Refused}
 use Rattle.checks.specs.Checked.{checkedOf}
 use Rattle.checks.proofs.CheckLaws.{conditions-note}

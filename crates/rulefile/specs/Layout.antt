@@ -1,12 +1,12 @@
 -- The layout of a rule file: the note, the table, the pairs, and the trailer of twelve bytes, which points back.
 -- Assumes nothing.
 use Prim.Native.Nat.{ℕ, zero, suc, _+_, _-_, _*_}
-use mathlib.Core.Bool.{Bool, true, cond, not, _&&_, _||_}
+use mathlib.Core.Bool.{Bool, not, _&&_, _||_}
 use mathlib.Core.List.{List, [], _∷_, _++_}
 use lib.ListN.{length, getD, take, drop}
 use lib.Dec.{leb, ltb, eqb}
 use Rattle.octets.specs.Numbers.{valueOf, digits}
-use Rattle.rule.specs.Drawing.{Drawing, count, stateNo, noPair, pairAt}
+use Rattle.rule.specs.Drawing.{Drawing, count, stateNo, noPair}
 use Rattle.rule.specs.Refusals.{refuseIf}
 use Rattle.rule.specs.declared.Pair.{Pair}
 use Rattle.rule.specs.declared.Shape.{Shape}

@@ -1,7 +1,7 @@
 -- What looking at a rule file and reading it come to.
 -- Assumes nothing.
 use Prim.Native.Nat.{ℕ, _-_}
-use mathlib.Core.List.{List, [], _∷_, _++_}
+use mathlib.Core.List.{List, _∷_}
 use lib.ListN.{length, replicate}
 use Rattle.rule.specs.Drawing.{stateNo, noPair, padded, ruleOf, zeroRule}
 use Rattle.rule.specs.Refusals.{firstOf, conditions}

@@ -2,8 +2,8 @@
 -- Assumes nothing.
 use Prim.Native.Nat.{ℕ}
 use mathlib.Core.Path.{_≡_}
-use mathlib.Core.Bool.{Bool, cond, not}
-use mathlib.Core.List.{List, [], _∷_, _++_}
+use mathlib.Core.Bool.{cond, not}
+use mathlib.Core.List.{List, _∷_, _++_}
 use lib.ListN.{length, drop}
 use lib.Dec.{leb}
 use Rattle.rule.specs.Drawing.{drawn}

@@ -11,7 +11,7 @@ use lib.Arith.{digits-lt}
 use lib.Dec.{leb, ltb, eqb}
 use lib.ListN.{length}
 use mir.Val.{Fits}
-use mir.Syntax.{w8, w64}
+use mir.Syntax.{w64}
 use borrow.Author.Tests.{lt-leb, le-ltb, ne-eqb, leb-false, ltb-false, eqb-false, not-true, not-false}
 use Rattle.rule.proofs.BoolLaws.{Says, and-says, eq-says, le-says, lt-says, in-words}
 use Rattle.sheet.specs.Given.{BadSheet, short, unmarked, no-states, many-states, no-events, many-events, no-initial, wrong-distance, wrong-length, GoodSheet}

@@ -1,7 +1,7 @@
 -- `octets::number` meets its contract: the bytes that have been passed are the number so far.
 -- Assumes nothing.
 use Prim.Native.Nat.{suc, _-_, _^_, _≤_, _<_, min}
-use mathlib.Core.Path.{_≡_, refl, sym, ap}
+use mathlib.Core.Path.{_≡_, sym, ap}
 use mathlib.Core.Logic.{⊎-elim}
 use native.Mathlib.Nat.{sub-self}
 use native.Mathlib.Omega.{arith}

@@ -1,10 +1,10 @@
 -- `writing::write` meets its contract: one law for each return.
 -- Assumes nothing.
 use borrow.Author.Needs.{needs}
-use Prim.Native.Nat.{_+_, _-_, _*_, _≤_}
+use Prim.Native.Nat.{_-_, _*_, _≤_}
 use mathlib.Core.Path.{_≡_, sym, _∙_}
 use native.Mathlib.Omega.{arith}
-use lib.ListN.{length, take, drop}
+use lib.ListN.{length, take}
 use lib.Seq.{length-take-le}
 use Rattle.rule.specs.Drawing.{drawn}
 use Rattle.rule.specs.declared.Verdict.the-variants.{Sound}
