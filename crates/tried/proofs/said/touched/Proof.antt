@@ -1,0 +1,52 @@
+-- `said::touched` is safe and ends: the place falls, and stays within the list.
+-- Assumes nothing.
+use borrow.Author.Needs.{needs}
+use lib.ListN.{length}
+use Prim.Native.Nat.{_≤_}
+use Rattle.tried.proofs.said.touched.Statement.{statement}
+use Rattle.tried.proofs.said.touched.Tie as tie
+
+abbrev Inv-loop : tie.InvT-loop
+Inv-loop list end₀ end = end ≤ length list
+
+abbrev μ-loop : tie.MeasureT-loop
+μ-loop list end₀ end = end
+
+loop-holds : tie.Need-loop-holds Inv-loop μ-loop
+loop-holds c = search needs
+
+sub-if1 : tie.Need-sub-if1 Inv-loop μ-loop
+sub-if1 c = search needs
+
+shared-slice-read-if1 : tie.Need-shared-slice-read-if1 Inv-loop μ-loop
+shared-slice-read-if1 c = search needs
+
+sub-end : tie.Need-sub-end Inv-loop μ-loop
+sub-end c = search needs
+
+loop-less : tie.Need-loop-less Inv-loop μ-loop
+loop-less c = search needs
+
+loop-again : tie.Need-loop-again Inv-loop μ-loop
+loop-again c = search needs
+
+returns : tie.Need-returns Inv-loop μ-loop
+returns c = search needs
+
+returns-2 : tie.Need-returns-2 Inv-loop μ-loop
+returns-2 c = search needs
+
+pub touched-spec : {M : Type 1} → statement M
+touched-spec =
+    tie.close
+    (tie.spec
+    Inv-loop
+    μ-loop
+    loop-holds
+    sub-if1
+    shared-slice-read-if1
+    sub-end
+    loop-less
+    loop-again
+    returns
+    returns-2)
