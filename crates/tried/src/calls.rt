@@ -4,24 +4,30 @@ ghost use Prim.Native.Nat.{_≤_};
 ghost use lib.ListN.{length};
 use crate::runs;
 use crate::said;
+use crate::script::part;
+use check::same;
 use rule::Pair;
 use rule::Rule;
 use rule::Shape;
 use rule::StateNo;
 use rule::Verdict;
+use rulefile::Written;
 
-// Reads a rule file, and where it is sound writes its rule again.
+// Reads a rule file, and where it is sound writes its rule again. A file that is the same is not printed.
 fn read(file: &[u8]) {
     let reading = rulefile::read(file);
     let verdict = reading.verdict;
-    match verdict {
-        Verdict::Refused(refusal) => said::refused(refusal),
-        Verdict::Sound => {
-            said::say(said::READ);
-            let mut out = [171u8; 3300];
-            let answer = writing::write(reading.rule, &mut out);
-            said::written(answer, &out, file);
-        }
+    if let Verdict::Refused(refusal) = verdict {
+        said::refused(refusal);
+        return;
+    }
+    let mut out = [171u8; 3300];
+    said::written(writing::write(reading.rule, &mut out));
+    if same(part(&out, 0, file.len()), file) {
+        said::say(said::SAME);
+        said::bytes(part(&out, file.len(), 3300));
+    } else {
+        said::bytes(&out);
     }
 }
 
@@ -52,9 +58,10 @@ fn pair_of(bytes: &[u8]) -> Pair
 fn rule_of(bytes: &[u8]) -> Rule
     requires { ⌜ length (now bytes) ≡ 128 ⌝ }
 {
-    let mut pairs = [Pair { r: 0, p: 0 }; 8];
-    pairs[0] = pair_of(&bytes[7..]);
-    pairs[1] = pair_of(&bytes[23..]);
+    let first = pair_of(&bytes[7..]);
+    let second = pair_of(&bytes[23..]);
+    let none = Pair { r: 0, p: 0 };
+    let pairs = [first, second, none, none, none, none, none, none];
     let mut table = [0u8; 2048];
     octets::copy(&bytes[39..55], &mut table);
     let mut note = [0u8; 1024];
@@ -69,29 +76,20 @@ fn rule_of(bytes: &[u8]) -> Rule
 }
 
 // Writes a rule by value.
-fn write(bytes: &[u8], out: &mut [u8]) {
+fn write(bytes: &[u8], out: &mut [u8]) -> Written {
     let mut whole = [0u8; 128];
     octets::copy(bytes, &mut whole);
-    let answer = writing::write(rule_of(&whole), out);
-    said::written(answer, out, b"");
+    writing::write(rule_of(&whole), out)
 }
 
-// Makes the sheet of a rule file.
-fn make(file: &[u8], out: &mut [u8]) {
-    let answer = making::make(file, out);
-    said::written(answer, out, b"");
-}
-
-// The calls that write to an output of so many bytes.
-fn put(command: u8, room: u8, bytes: &[u8]) -> bool {
-    let mut whole = [171u8; 255];
-    let out: &mut [u8] = &mut whole;
-    let size = room as usize;
+// The calls that write to an output.
+fn put(command: u8, bytes: &[u8], out: &mut [u8]) -> bool {
     match command {
-        b'w' => write(bytes, &mut out[0..size]),
-        b'm' => make(bytes, &mut out[0..size]),
+        b'w' => said::written(write(bytes, out)),
+        b'm' => said::written(making::make(bytes, out)),
         _ => return false,
     }
+    said::bytes(out);
     true
 }
 
@@ -101,7 +99,10 @@ pub(crate) fn call(command: u8, numbers: &[u8], bytes: &[u8]) -> bool {
         return runs::event(bytes, numbers);
     }
     if numbers.len() == 1 {
-        return put(command, numbers[0], bytes);
+        let mut whole = [171u8; 255];
+        let out: &mut [u8] = &mut whole;
+        let room = numbers[0] as usize;
+        return put(command, bytes, &mut out[0..room]);
     }
     if numbers.len() != 0 {
         return false;

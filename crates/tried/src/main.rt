@@ -12,20 +12,16 @@ use script::listed;
 use script::part;
 
 // A command on the bytes of some list lines, with those bytes changed that the changes name. Answers whether all of it is clear.
-fn tried(command: u8, numbers: &[u8], lines: &[u8], changes: &[u8]) -> bool {
+fn obey(command: u8, numbers: &[u8], lines: &[u8], changes: &[u8]) -> bool {
     let mut list = [0u8; 64];
     let count = listed(numbers, &mut list, 0);
-    let mut whole = [0u8; 3300];
-    let bytes: &mut [u8] = &mut whole;
-    let size = listed(lines, bytes, 0);
-    if 64 < count {
+    if find(lines, b'@', 0) < lines.len() {
         return false;
     }
-    if 3300 < size {
-        return false;
-    }
-    if changed(changes, &mut bytes[0..size]) {
-        return calls::call(command, part(&list, 0, count), part(bytes, 0, size));
+    let mut bytes = [0u8; 3300];
+    let size = listed(lines, &mut bytes, 0);
+    if count <= 64 && changed(changes, &mut bytes, size) {
+        return calls::call(command, part(&list, 0, count), part(&bytes, 0, size));
     }
     false
 }
@@ -36,9 +32,12 @@ fn case(line: &[u8], lines: &[u8]) -> bool {
     if line.len() - colon < 3 {
         return false;
     }
+    if line[colon + 1] != b' ' {
+        return false;
+    }
     let end = find(line, b'@', colon + 3);
     io::write_all(1, &line[0..colon + 1]);
-    let clear = tried(line[colon + 2], &line[colon + 3..end], lines, &line[end..]);
+    let clear = obey(line[colon + 2], &line[colon + 3..end], lines, &line[end..]);
     say(said::END);
     clear
 }

@@ -2,7 +2,6 @@
 ghost use Prim.Native.Nat.{_≤_};
 ghost use lib.ListN.{length};
 use crate::said;
-use crate::script::part;
 use monitor::Answer;
 use monitor::Run;
 use rule::EventNo;
@@ -30,7 +29,7 @@ fn offer(sheet: &[u8], run: Run, code: u8, memory: &mut [u8], output: &mut [u8])
             said::say(operation.mark() as usize);
             said::run(after);
             said::say(said::RELEASED);
-            said::bytes(part(output, 0, released));
+            said::number(released as u64);
             after
         }
         Answer::Refused(refusal) => {
@@ -40,7 +39,7 @@ fn offer(sheet: &[u8], run: Run, code: u8, memory: &mut [u8], output: &mut [u8])
     }
 }
 
-// Events one after another from a state with some held, and then the memory and the output.
+// Events one after another from a state with some held, each with the output after it, and then the memory.
 fn follow(sheet: &[u8], numbers: &[u8], memory: &mut [u8], output: &mut [u8])
     requires { ⌜ 4 ≤ length (now numbers) ⌝ }
 {
@@ -51,12 +50,12 @@ fn follow(sheet: &[u8], numbers: &[u8], memory: &mut [u8], output: &mut [u8])
     let mut i = 4;
     while i < numbers.len() {
         run = offer(sheet, run, numbers[i], memory, output);
+        said::say(said::OUTPUT);
+        said::bytes(output);
         i += 1;
     }
     said::say(said::MEMORY);
     said::bytes(memory);
-    said::say(said::OUTPUT);
-    said::bytes(output);
 }
 
 // Events with buffers of 171s: the lengths of the memory and of the output, the state, how many are held, the codes.

@@ -2,45 +2,42 @@
 ghost use Prim.Native.Nat.{_≤_};
 ghost use lib.ListN.{length};
 use crate::script::find;
-use check::same;
 use monitor::Run;
 use rule::Refusal;
 use rulefile::Written;
 
 // The words, ten bytes for each: a space, the word and spaces. First stand the operations, by their numbers in a sheet.
-const WORDS: [u8; 170] =
-    *b" halt      store     dump      refused   sound     read      written   same      none      171x      state     held      released  memory    output             \n         ";
+const WORDS: [u8; 160] =
+    *b" halt      store     dump      refused   sound     written   same      none      171x      state     held      released  memory    output             \n         ";
 
 pub(crate) const REFUSED: usize = 3;
 
 pub(crate) const SOUND: usize = 4;
 
-pub(crate) const READ: usize = 5;
+pub(crate) const WRITTEN: usize = 5;
 
-pub(crate) const WRITTEN: usize = 6;
+pub(crate) const SAME: usize = 6;
 
-pub(crate) const SAME: usize = 7;
+pub(crate) const NONE: usize = 7;
 
-pub(crate) const NONE: usize = 8;
+pub(crate) const UNTOUCHED: usize = 8;
 
-pub(crate) const UNTOUCHED: usize = 9;
+pub(crate) const STATE: usize = 9;
 
-pub(crate) const STATE: usize = 10;
+pub(crate) const HELD: usize = 10;
 
-pub(crate) const HELD: usize = 11;
+pub(crate) const RELEASED: usize = 11;
 
-pub(crate) const RELEASED: usize = 12;
+pub(crate) const MEMORY: usize = 12;
 
-pub(crate) const MEMORY: usize = 13;
+pub(crate) const OUTPUT: usize = 13;
 
-pub(crate) const OUTPUT: usize = 14;
+pub(crate) const SPACE: usize = 14;
 
-pub(crate) const SPACE: usize = 15;
-
-pub(crate) const END: usize = 16;
+pub(crate) const END: usize = 15;
 
 pub(crate) fn say(word: usize) {
-    if word < 17 {
+    if word < 16 {
         let end = find(&WORDS, b' ', 10 * word + 1);
         io::write_all(1, &WORDS[10 * word..end]);
     }
@@ -94,21 +91,15 @@ pub(crate) fn refused(refusal: Refusal) {
     number(told.b as u64);
 }
 
-// What came of writing to an output, and all that stands in it where that is not a file that was to be written.
-pub(crate) fn written(answer: Written, out: &[u8], file: &[u8]) {
+// What came of writing.
+pub(crate) fn written(answer: Written) {
     match answer {
         Written::Done(n) => {
             say(WRITTEN);
             number(n as u64);
-            if n <= out.len() && same(&out[0..n], file) {
-                say(SAME);
-                bytes(&out[n..]);
-                return;
-            }
         }
         Written::Refused(refusal) => refused(refusal),
     }
-    bytes(out);
 }
 
 pub(crate) fn run(run: Run) {

@@ -105,8 +105,10 @@ pub(crate) fn listed(text: &[u8], list: &mut [u8], size: usize) -> usize {
     place
 }
 
-// Changes bytes of a list, and none beyond its end.
-pub(crate) fn changed(changes: &[u8], list: &mut [u8]) -> bool {
-    let size = list.len();
-    listed(changes, list, size) <= size
+// Changes bytes of a list of so many, and none beyond its end.
+pub(crate) fn changed(changes: &[u8], list: &mut [u8], size: usize) -> bool {
+    if list.len() < size {
+        return false;
+    }
+    listed(changes, &mut list[0..size], size) <= size
 }

@@ -32,6 +32,12 @@ shared-slice-read-offer c = search needs
 offer-requires : tie.Need-offer-requires Inv-loop μ-loop
 offer-requires c κs = search needs
 
+say-requires : tie.Need-say-requires Inv-loop μ-loop
+say-requires c κs = search needs
+
+bytes-requires : tie.Need-bytes-requires Inv-loop μ-loop
+bytes-requires c κs = search needs
+
 add-i : tie.Need-add-i Inv-loop μ-loop
 add-i c = search needs
 
@@ -40,12 +46,6 @@ loop-less c = search needs
 
 loop-again : tie.Need-loop-again Inv-loop μ-loop
 loop-again c = search needs
-
-say-requires : tie.Need-say-requires Inv-loop μ-loop
-say-requires c κs = search needs
-
-bytes-requires : tie.Need-bytes-requires Inv-loop μ-loop
-bytes-requires c κs = search needs
 
 say-requires-2 : tie.Need-say-requires-2 Inv-loop μ-loop
 say-requires-2 c κs = search needs
@@ -74,11 +74,11 @@ follow-spec =
     loop-holds
     shared-slice-read-offer
     offer-requires
+    say-requires
+    bytes-requires
     add-i
     loop-less
     loop-again
-    say-requires
-    bytes-requires
     say-requires-2
     bytes-requires-2
     same-length
