@@ -52,10 +52,10 @@ fn number(text: &[u8], from: usize) -> Numeral {
 }
 
 // Adds to a list of bytes what a number says after a mark: after a space the number, after `-` all that follow the last number up to this
-// one. After `@` the next is to stand at this place. Answers the place after the last byte.
+// one. After `@` the next is to stand at this place, and there has to be one. Answers the place after the last byte.
 fn add(mark: u8, last: usize, value: usize, list: &mut [u8], place: usize) -> usize {
     if mark == b'@' {
-        return value;
+        return if last == UNCLEAR { UNCLEAR } else { value };
     }
     let mut byte = value;
     if mark == b'-' {
@@ -84,7 +84,7 @@ fn add(mark: u8, last: usize, value: usize, list: &mut [u8], place: usize) -> us
 // Adds the numbers of some lines to a list of bytes.
 pub(crate) fn listed(text: &[u8], list: &mut [u8], size: usize) -> usize {
     let mut place = size;
-    let mut last = UNCLEAR;
+    let mut last = 255;
     let mut at = 0;
     while at < text.len() {
         if text[at] == b'\n' {
@@ -99,10 +99,14 @@ pub(crate) fn listed(text: &[u8], list: &mut [u8], size: usize) -> usize {
         if number.end <= at + 1 {
             return UNCLEAR;
         }
-        last = number.value;
+        last = if text[at] == b'@' {
+            UNCLEAR
+        } else {
+            number.value
+        };
         at = number.end;
     }
-    place
+    if last == UNCLEAR { UNCLEAR } else { place }
 }
 
 // Changes bytes of a list of so many, and none beyond its end.
