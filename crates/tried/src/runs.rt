@@ -2,8 +2,8 @@
 ghost use Prim.Native.Nat.{_≤_};
 ghost use lib.ListN.{length};
 use crate::said;
-use monitor::Answer;
-use monitor::Run;
+use effects::Answer;
+use effects::Run;
 use rule::EventNo;
 use rule::StateNo;
 use rule::Verdict;

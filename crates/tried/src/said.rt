@@ -2,7 +2,7 @@
 ghost use Prim.Native.Nat.{_≤_};
 ghost use lib.ListN.{length};
 use crate::script::find;
-use monitor::Run;
+use effects::Run;
 use rule::Refusal;
 use rulefile::Written;
 
