@@ -1,15 +1,14 @@
 -- What `checked` comes to, return by return; what it comes to of a shape that passed check 3; and the numbers that it gives.
 -- Assumes nothing.
 use mathlib.Core.Path.{_≡_, _∙_}
-use mathlib.Core.Bool.{true, false, not, _&&_}
+use mathlib.Core.Bool.{true, false, not}
 use mathlib.Core.List.{List}
 use Prim.Native.Nat.{ℕ, _≤_}
 use native.Mathlib.Omega.{arith}
 use borrow.Author.Tests.{le-leb, not-false}
 use Rattle.rule.specs.Drawing.{body}
 use Rattle.rule.specs.Refusals.{firstOf, conditions}
-use lib.Dec.{leb}
-use Rattle.rule.proofs.BoolLaws.{Says, and-says, le-says, in-words}
+use Rattle.rule.proofs.BoolLaws.{and-says, le-says}
 use Rattle.rule.proofs.NumberLaws.{Gives, refuse-gives, first-gives, and, all-wider, conditions-give}
 use Rattle.rule.specs.declared.Pair.{Pair}
 use Rattle.rule.specs.declared.Shape.{Shape}
@@ -19,34 +18,23 @@ use Rattle.rule.specs.declared.Verdict.the-variants.{Refused}
 use Rattle.checks.specs.Checked.{holds, checkedOf}
 
 -- what a shape has that can be held
-pub record Held (s : Shape) : Type 0 where
-  pub few-states : s .states ≤ 64
-  pub some-pairs : 1 ≤ s .pairs
-  pub few-pairs : s .pairs ≤ 8
-
-held-says : (s : Shape) → Says (leb (s .states) 64 && (leb 1 (s .pairs) && leb (s .pairs) 8)) (Held s)
-held-says s =
-    in-words (and-says (le-says _ _) (and-says (le-says _ _) (le-says _ _)))
-    (λ p. record { few-states = p .0; some-pairs = p .1 .0; few-pairs = p .1 .1 })
-    (λ h. (h .few-states, (h .some-pairs, h .few-pairs)))
-
-pub passed : (s : Shape) → not (leb (s .states) 64 && (leb 1 (s .pairs) && leb (s .pairs) 8)) ≡ false
-    → (s .states ≤ 64) × (1 ≤ s .pairs) × (s .pairs ≤ 8)
-passed s h = let p = held-says s .0 (not-false _ h) in (p .few-states, p .some-pairs, p .few-pairs)
+pub passed : (s : Shape) → not (holds s) ≡ false → (s .states ≤ 64) × (1 ≤ s .pairs) × (s .pairs ≤ 8)
+passed s h =
+    let p = and-says (le-says (s .states) 64) (and-says (le-says 1 (s .pairs)) (le-says (s .pairs) 8)) .0 (not-false (holds s) h) in
+    (p .0, p .1 .0, p .1 .1)
 
 module _ (s : Shape) (table : List ℕ) (ps : List Pair) where
-  pub not-held : not (leb (s .states) 64 && (leb 1 (s .pairs) && leb (s .pairs) 8)) ≡ true → Refused Range ≡ checkedOf s table ps
-  unfolding checkedOf holds firstOf
+  pub not-held : not (holds s) ≡ true → Refused Range ≡ checkedOf s table ps
+  unfolding checkedOf firstOf
   not-held h = rw h
 
-  pub held : not (leb (s .states) 64 && (leb 1 (s .pairs) && leb (s .pairs) 8)) ≡ false
-      → {v : Verdict} → v ≡ firstOf (conditions (body s table ps)) → v ≡ checkedOf s table ps
-  unfolding checkedOf holds firstOf
+  pub held : not (holds s) ≡ false → {v : Verdict} → v ≡ firstOf (conditions (body s table ps)) → v ≡ checkedOf s table ps
+  unfolding checkedOf firstOf
   held h e = e ∙ rw h
 
   -- of a shape in range: the first of the conditions 5 to 10
   pub in-range : s .states ≤ 64 → 1 ≤ s .pairs → s .pairs ≤ 8 → checkedOf s table ps ≡ firstOf (conditions (body s table ps))
-  unfolding checkedOf holds firstOf
+  unfolding checkedOf firstOf
   in-range few some fits = rw (le-leb (s .states) 64 few, le-leb 1 (s .pairs) some, le-leb (s .pairs) 8 fits)
 
   -- the numbers that it gives

@@ -12,7 +12,7 @@ use Rattle.rule.specs.declared.Refusal.the-variants.{Range}
 use Rattle.rule.specs.declared.Verdict.{Verdict}
 
 -- a set can hold the states, and the array the pairs, of which there is one at least
-unfoldable pub holds : Shape → Bool
+abbrev pub holds : Shape → Bool
 holds s = leb (s .states) 64 && (leb 1 (s .pairs) && leb (s .pairs) 8)
 
 -- 3 of a shape that cannot be held, and then the conditions 5 to 10 in order

@@ -2,7 +2,6 @@
 -- Assumes nothing.
 use Prim.Native.Nat.{ℕ, zero, suc, _+_, _-_, _*_, _/_, _%_, _≤_, _<_}
 use native.Mathlib.Omega.{arith}
-use native.Mathlib.Nat.{mul-le-mul}
 use native.Mathlib.Numerals.{add-one}
 use mathlib.Core.Path.{_≡_, refl, sym, ap, _∙_}
 use mathlib.Core.List.{List, [], _∷_, _++_, map, append-nil}
@@ -55,12 +54,6 @@ module _ (marks : List ℕ) where
           e ∙ rw (take-all i table ge, drop-of-length-le out₀ {i = i} (omega arith)) (append-nil (map withMark table))
 
 -- the last six bytes
-pub bytes-mul : {a b : ℕ} → Fits w8 a → Fits w8 b → Fits w64 (a * b)
-bytes-mul {a} {b} f g = omega (arith, mul-le-mul {n₁ = a} {m₁ = b} {n₂ = 255} {m₂ = 255} (omega arith) (omega arith))
-
-pub bytes-mul-six : {a b : ℕ} → Fits w8 a → Fits w8 b → Fits w64 (a * b + 6)
-bytes-mul-six {a} {b} f g = omega (arith, mul-le-mul {n₁ = a} {m₁ = b} {n₂ = 255} {m₂ = 255} (omega arith) (omega arith))
-
 pub end-written : (h : Shape) (out after : List ℕ) (x : ℕ) → length out ≡ 6 → x ≡ h .states * h .events + 6
     → after ≡ copied (h .states ∷ h .events ∷ h .initial .0 ∷ 77 ∷ x % 256 ∷ x / 256 % 256 ∷ []) out → after ≡ endOf h
 unfolding digits

@@ -5,31 +5,20 @@ use mathlib.Core.Bool.{true, false}
 use mathlib.Core.List.{List}
 use Prim.Native.Nat.{ℕ, zero, suc, _+_, _-_, _*_, _/_, _^_, _≤_, _<_}
 use native.Mathlib.Omega.{arith}
-use native.Mathlib.Nat.{mul-le-mul, add-zero, add-suc}
+use native.Mathlib.Nat.{add-zero, add-suc}
 use native.Mathlib.Numerals.{add-one}
 use lib.ListN.{length, getD, set, List·getD-eq-default}
 use lib.Seq.{set-out}
 use lib.Bits.{bitXor}
 use lib.Count.{trailingZeros}
 use lib.Pow.{shr-shr, shr-le}
-use mir.Syntax.{w8, w64}
+use mir.Syntax.{w8}
 use mir.Val.{Fits}
 use Rattle.rule.specs.Sets.{has, including}
 use Rattle.rule.specs.Reach.{target, withMoves, movedBelow, movedSet, spread, reachedWithin, reachedSets}
 use Rattle.rule.proofs.SetLaws.{has-none, has-past, has-shifted, lowest-in, lowest-first, below-or}
 use Rattle.rule.proofs.MoveLaws.{moved-fresh}
 use Rattle.rule.proofs.BoolLaws.{clash}
-
--- the place of a cell is a small number
-
-place : (s k : ℕ) → s < 256 → k < 256 → s * k ≤ 65025
-place s k hs hk = mul-le-mul {n₂ = 255} {m₂ = 255} (omega arith) (omega arith)
-
-pub row-fits : (s k : ℕ) → s < 256 → k < 256 → Fits w64 (s * k)
-row-fits s k hs hk = omega (arith, place s k hs hk)
-
-pub place-fits : (s k e : ℕ) → s < 256 → k < 256 → e < 256 → Fits w64 (s * k + e)
-place-fits s k e hs hk he = omega (arith, place s k hs hk)
 
 module _ (table : List ℕ) (k : ℕ) where
   -- past the table every move leads to state 0

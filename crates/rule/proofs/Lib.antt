@@ -1,3 +1,5 @@
+-- what code computes of bytes
+pub mod ByteLaws
 -- sets of states, and what they reach
 pub mod SetLaws
 pub mod MoveLaws

@@ -4,8 +4,6 @@ use mathlib.Core.Path.{_≡_, refl, sym, ap, _∙_}
 use mathlib.Core.List.{List, [], _∷_}
 use mathlib.Core.Bool.{Bool, true, false, not, _&&_}
 use Prim.Native.Nat.{ℕ, _-_, _*_, _≤_, _<_}
-use native.Mathlib.Nat.{mul-le-mul}
-use native.Mathlib.Omega.{arith}
 use borrow.Author.Tests.{le-leb, lt-leb, le-ltb, lt-ltb, eq-eqb, ne-eqb, not-true, not-false}
 use lib.Dec.{leb, ltb, eqb}
 use lib.ListN.{length, getD, take, length-append}
@@ -27,10 +25,6 @@ use Rattle.rulefile.proofs.ListLaws.{length-flatUpTo, flat-ext}
 
 -- a comparison's answer from what it compares
 pub ruleset tests = (le-leb, lt-leb, le-ltb, lt-ltb, eq-eqb, ne-eqb)
-
--- a product of two bytes
-pub bytes-mul : (a b : ℕ) → a < 256 → b < 256 → a * b < 65536
-bytes-mul a b ha hb = let h : a * b ≤ 255 * 255 = mul-le-mul {n₂ = 255} {m₂ = 255} (omega arith) (omega arith) in omega arith
 
 -- sizes
 

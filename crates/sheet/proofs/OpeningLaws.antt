@@ -116,16 +116,7 @@ pub good-opened : {l : List ℕ} → GoodSheet l → Sheet (headIn l) ≡ opened
 unfolding openedOf
 good-opened g = rw (good-says _ .1 g)
 
--- the product of two bytes is small, and that of a sheet's numbers smaller
-bytes-product : (n k : ℕ) → n < 256 → k < 256 → n * k ≤ 65025
-bytes-product n k h₁ h₂ = mul-le-mul {n₂ = 255} {m₂ = 255} (omega arith) (omega arith)
-
-pub product-fits : (n k : ℕ) → n < 256 → k < 256 → Fits w64 (n * k)
-product-fits n k h₁ h₂ = omega (arith, bytes-product n k h₁ h₂)
-
-pub size-fits : (n k : ℕ) → n < 256 → k < 256 → Fits w64 (n * k + 6)
-size-fits n k h₁ h₂ = omega (arith, bytes-product n k h₁ h₂)
-
+-- products of a sheet's numbers fit
 pub cells-fit : (n k : ℕ) → n ≤ 64 → k ≤ 32 → Fits w64 (n * k)
 cells-fit n k h₁ h₂ = omega (arith, mul-le-mul h₁ h₂)
 

@@ -1,4 +1,4 @@
--- `rule::operations::operation` meets its contract: the loop goes from the last used pair down to the first.
+-- `operations::operation` meets its contract: the loop goes from the last used pair down to the first.
 -- Assumes nothing.
 use borrow.Author.Needs.{needs}
 use mathlib.Core.Path.{_≡_}

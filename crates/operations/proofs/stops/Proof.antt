@@ -1,4 +1,4 @@
--- `rule::operations::stops` meets its contract.
+-- `operations::stops` meets its contract.
 -- Assumes nothing.
 use borrow.Author.Needs.{needs}
 use Rattle.operations.proofs.ValueLaws.{stops-P, stops-flag}

@@ -1,4 +1,4 @@
--- `rule::operations::value` meets its contract: one law of `ValueLaws` for each way through it.
+-- `operations::value` meets its contract: one law of `ValueLaws` for each way through it.
 -- Assumes nothing.
 use borrow.Author.Needs.{needs}
 use Rattle.operations.proofs.ValueLaws.{value-P, value-R, value-halt, value-store}

@@ -1,4 +1,4 @@
--- `rule::reach::spread_within` meets its contract, by recursion on the moves left.
+-- `reach::spread_within` meets its contract, by recursion on the moves left.
 -- Assumes nothing.
 use borrow.Author.Needs.{needs}
 use Prim.Native.Nat.{ℕ, _<_}

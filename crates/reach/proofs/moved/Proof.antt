@@ -1,4 +1,4 @@
--- `rule::reach::moved` meets its contract: the loop goes from one member to the next, and what lies between adds nothing.
+-- `reach::moved` meets its contract: the loop goes from one member to the next, and what lies between adds nothing.
 -- Assumes nothing.
 use borrow.Author.Needs.{needs}
 use mathlib.Core.Path.{_≡_}

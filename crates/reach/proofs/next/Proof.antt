@@ -1,9 +1,10 @@
--- `rule::reach::next` meets its contract, and the index fits: two bytes multiply to less than 2 ^ 16.
+-- `reach::next` meets its contract, and the index fits: two bytes multiply to less than 2 ^ 16.
 -- Assumes nothing.
 use borrow.Author.Needs.{needs}
 use mathlib.Core.Path.{refl}
 use Rattle.rule.specs.Reach.{target}
-use Rattle.reach.proofs.StepLaws.{row-fits, place-fits, target-past}
+use Rattle.rule.proofs.ByteLaws.{product-fits, place-fits}
+use Rattle.reach.proofs.StepLaws.{target-past}
 use Rattle.reach.proofs.next.Statement.{statement}
 use Rattle.reach.proofs.next.Tie as tie
 
@@ -11,7 +12,7 @@ cast-i : tie.Need-cast-i
 cast-i c = search needs
 
 mul-i : tie.Need-mul-i
-mul-i c = search (needs, row-fits)
+mul-i c = search (needs, product-fits)
 
 cast-i-2 : tie.Need-cast-i-2
 cast-i-2 c = search needs

@@ -1,4 +1,4 @@
--- `rule::reach::reached` meets its contract.
+-- `reach::reached` meets its contract.
 -- Assumes nothing.
 use borrow.Author.Needs.{needs}
 use mathlib.Core.Logic.{⊎-elim}

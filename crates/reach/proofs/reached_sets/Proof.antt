@@ -1,4 +1,4 @@
--- `rule::reach::reached_sets` meets its contract; a state past the array changes nothing, in the code and in the definition.
+-- `reach::reached_sets` meets its contract; a state past the array changes nothing, in the code and in the definition.
 -- Assumes nothing.
 use borrow.Author.Needs.{needs}
 use mathlib.Core.Path.{_≡_}

@@ -1,4 +1,4 @@
--- `rule::reach::reached_within` meets its contract.
+-- `reach::reached_within` meets its contract.
 -- Assumes nothing.
 use borrow.Author.Needs.{needs}
 use Rattle.reach.proofs.StepLaws.{only-all, within}

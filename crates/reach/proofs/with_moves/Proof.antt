@@ -1,4 +1,4 @@
--- `rule::reach::with_moves` meets its contract: both loops build the definition one event at a time.
+-- `reach::with_moves` meets its contract: both loops build the definition one event at a time.
 -- Assumes nothing.
 use borrow.Author.Needs.{needs}
 use mathlib.Core.Path.{_≡_, refl}
@@ -6,7 +6,8 @@ use Prim.Native.Nat.{ℕ, _≤_, _+_, _-_, _*_}
 use native.Mathlib.Omega.{arith}
 use lib.ListN.{length}
 use Rattle.rule.specs.Reach.{withMoves}
-use Rattle.reach.proofs.StepLaws.{row-fits, place-fits, moves-none, moves-more, moves-read, moves-all}
+use Rattle.rule.proofs.ByteLaws.{product-fits, place-fits}
+use Rattle.reach.proofs.StepLaws.{moves-none, moves-more, moves-read, moves-all}
 use Rattle.reach.proofs.with_moves.Statement.{statement}
 use Rattle.reach.proofs.with_moves.Tie as tie
 
@@ -26,7 +27,7 @@ cast-row : tie.Need-cast-row Inv-loop μ-loop Inv-loop2 μ-loop2
 cast-row c = search needs
 
 mul-row : tie.Need-mul-row Inv-loop μ-loop Inv-loop2 μ-loop2
-mul-row c = search (needs, row-fits)
+mul-row c = search (needs, product-fits)
 
 add-end : tie.Need-add-end Inv-loop μ-loop Inv-loop2 μ-loop2
 add-end c = search (needs, place-fits)

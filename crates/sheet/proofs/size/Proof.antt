@@ -1,6 +1,6 @@
 -- `size` meets its contract: what it computes fits. Assumes nothing.
 use borrow.Author.Needs.{needs}
-use Rattle.sheet.proofs.OpeningLaws.{product-fits, size-fits}
+use Rattle.rule.proofs.ByteLaws.{product-fits, place-fits}
 use Rattle.sheet.proofs.size.Statement.{statement}
 use Rattle.sheet.proofs.size.Tie as tie
 
@@ -8,7 +8,7 @@ mul-result : tie.Need-mul-result
 mul-result c = search (needs, product-fits)
 
 add-result : tie.Need-add-result
-add-result c = search (needs, size-fits)
+add-result c = search (needs, place-fits)
 
 returns : tie.Need-returns
 returns c = search needs

@@ -5,7 +5,7 @@ use mathlib.Core.Path.{_∙_}
 use native.Mathlib.Omega.{arith}
 use Rattle.octets.specs.Numbers.{digits}
 use Rattle.octets.proofs.CopyLaws.{copied-full}
-use Rattle.rulefile.proofs.LayoutLaws.{bytes-mul}
+use Rattle.rule.proofs.ByteLaws.{bytes-mul}
 use Rattle.rulefile.specs.Layout.{trailerOut}
 use Rattle.writing.proofs.put_trailer.Statement.{statement}
 use Rattle.writing.proofs.put_trailer.Tie as tie

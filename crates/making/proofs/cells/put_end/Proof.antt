@@ -1,6 +1,7 @@
 -- `put_end` meets its contract. Assumes nothing.
 use borrow.Author.Needs.{needs}
-use Rattle.making.proofs.CellLaws.{bytes-mul, bytes-mul-six, end-written}
+use Rattle.rule.proofs.ByteLaws.{product-fits, place-fits}
+use Rattle.making.proofs.CellLaws.{end-written}
 use Rattle.making.proofs.cells.put_end.Statement.{statement}
 use Rattle.making.proofs.cells.put_end.Tie as tie
 
@@ -11,10 +12,10 @@ cast-size-2 : tie.Need-cast-size-2
 cast-size-2 c = search needs
 
 mul-size : tie.Need-mul-size
-mul-size c = search (needs, bytes-mul)
+mul-size c = search (needs, product-fits)
 
 add-size : tie.Need-add-size
-add-size c = search (needs, bytes-mul-six)
+add-size c = search (needs, place-fits)
 
 cast-t9 : tie.Need-cast-t9
 cast-t9 c = search needs

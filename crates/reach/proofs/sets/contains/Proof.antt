@@ -1,4 +1,4 @@
--- `rule::sets::contains` meets its contract: the bit that the shift leaves; past 63 a 64-bit number has none.
+-- `reach::sets::contains` meets its contract: the bit that the shift leaves; past 63 a 64-bit number has none.
 -- Assumes nothing.
 use borrow.Author.Needs.{needs}
 use mathlib.Core.Path.{refl, sym}

@@ -1,4 +1,4 @@
--- `rule::sets::insert` meets its contract: the or with a power of two is `including`.
+-- `reach::sets::insert` meets its contract: the or with a power of two is `including`.
 -- Assumes nothing.
 use borrow.Author.Needs.{needs}
 use Rattle.rule.proofs.SetLaws.{or-including, including-past}

@@ -3,7 +3,8 @@
 use borrow.Author.Needs.{needs}
 use native.Mathlib.Omega.{arith}
 use Rattle.rulefile.specs.Layout.{placed}
-use Rattle.rulefile.proofs.LayoutLaws.{tests, bytes-mul}
+use Rattle.rulefile.proofs.LayoutLaws.{tests}
+use Rattle.rule.proofs.ByteLaws.{bytes-mul}
 use Rattle.rulefile.proofs.layout.placed.Statement.{statement}
 use Rattle.rulefile.proofs.layout.placed.Tie as tie
 use Rattle.rulefile.proofs.layout.placed.Reads as reads
