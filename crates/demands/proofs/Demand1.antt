@@ -42,7 +42,7 @@ use Rattle.office.specs.declared.Answered.{Answered}
 use Rattle.office.proofs.RefusedLaws.{make-kept, event-kept}
 
 pub record Demand1 : Type 0 where
-  -- looking at a rule file: 1 to 10, and 0 in every place; of its checks alone, 2 and 3 of a shape, 3 and 5 to 10 of a table and pairs
+  -- looking at a rule file: 1 to 10, and 0 in every place; its checks alone: 2 and 3 of a shape, 3 to 10 of a table and pairs
   pub look : (f : List ℕ) (x : Refusal) → partsOf f .verdict ≡ Unsound x → Numbered 1 10 x × (partsOf f ≡ partsBy (Unsound x) [])
   pub shape : (s : Shape) (spare : ℕ) (x : Refusal) → firstOf (class s ∷ range s spare ∷ []) ≡ Unsound x → Numbered 2 3 x
   pub check : (s : Shape) (table : List ℕ) (pairs : List Pair) (x : Refusal) → checkedOf s table pairs ≡ Unsound x → Numbered 3 10 x
