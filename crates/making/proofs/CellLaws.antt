@@ -5,7 +5,7 @@ use native.Mathlib.Omega.{arith}
 use native.Mathlib.Numerals.{add-one}
 use mathlib.Core.Path.{_≡_, refl, sym, ap, _∙_}
 use mathlib.Core.List.{List, [], _∷_, _++_, map, append-nil}
-use lib.ListN.{length, getD, take, drop, set, length-map, drop-of-length-le}
+use lib.ListN.{length, getD, take, drop, set, replicate, length-map, drop-of-length-le}
 use lib.Seq.{take-suc, take-all, length-take-le}
 use borrow.Rule.Slice.PartMut.{putMid}
 use mir.Val.{Fits}
@@ -15,15 +15,27 @@ use Rattle.octets.specs.Copies.{copied}
 use Rattle.octets.proofs.CopyLaws.{copied-full}
 use Rattle.octets.proofs.ListLaws.{store-more, part-rest}
 use Rattle.rule.specs.Drawing.{body}
+use Rattle.rule.specs.Operations.{markOf, operationAt, operationsOf}
+use Rattle.rule.specs.declared.Operation.{Operation}
+use Rattle.rule.specs.declared.Operation.the-variants.{Halt, Store, Dump}
 use Rattle.rule.specs.declared.Pair.{Pair}
 use Rattle.rule.specs.declared.Shape.{Shape}
-use Rattle.sheet.specs.Making.{cellAt, endOf, sheetOf, marksOf}
-use Rattle.making.proofs.MarkLaws.{marks-at}
+use Rattle.rule.proofs.ArrayLaws.{filled-at}
+use Rattle.sheet.specs.Making.{cellAt, endOf, sheetOf}
 
--- the loop over the cells: each next state with its mark
-module _ (marks : List ℕ) where
+-- an operation's number is at most 2, and 64 times it is a byte
+mark-small : (o : Operation) → markOf o ≤ 2
+mark-small Halt = omega arith
+mark-small Store = omega arith
+mark-small Dump = omega arith
+
+pub mark-fits : {x : ℕ} (o : Operation) → x ≡ markOf o → Fits w8 (64 * x)
+mark-fits o e = omega (arith, mark-small o)
+
+-- the loop over the cells: next state + 64 * operation
+module _ (operations : List Operation) where
   abbrev pub withMark : ℕ → ℕ
-  withMark t = t + getD marks t 0
+  withMark t = t + 64 * markOf (getD operations t Halt)
 
   map-snoc : (l : List ℕ) (x : ℕ) → map withMark (l ++ (x ∷ [])) ≡ map withMark l ++ (withMark x ∷ [])
   map-snoc [] x = refl
@@ -38,15 +50,16 @@ module _ (marks : List ℕ) where
       pub entry-in : getD table i 0 < 64
       entry-in = low i
 
-      pub cell-fits : ((i : ℕ) → getD marks i 0 ≤ 128) → Fits w8 (withMark (getD table i 0))
-      cell-fits small = omega (arith, low i, small (getD table i 0))
+      pub cell-fits : {x : ℕ} → x ≡ markOf (getD operations (getD table i 0) Halt) → Fits w8 (getD table i 0 + 64 * x)
+      cell-fits e = omega (arith, low i, mark-small (getD operations (getD table i 0) Halt))
 
     module _ (out out₀ : List ℕ) (i : ℕ) (e : out ≡ map withMark (take i table) ++ drop i out₀) (n : length out₀ ≡ length table) where
       pub cells-more : i < length table
-          → set out i (withMark (getD table i 0)) ≡ map withMark (take (i + 1) table) ++ drop (i + 1) out₀
-      cells-more h =
+          → {x : ℕ} → x ≡ markOf (getD operations (getD table i 0) Halt)
+          → set out i (getD table i 0 + 64 * x) ≡ map withMark (take (i + 1) table) ++ drop (i + 1) out₀
+      cells-more h is-x =
           let m : length (map withMark (take i table)) ≡ i = length-map (take i table) withMark ∙ length-take-le i table (omega arith) in
-          rw (e, add-one, take-suc table i 0, map-snoc)
+          rw (e, is-x, add-one, take-suc table i 0, map-snoc)
           (store-more (map withMark (take i table)) out₀ i (withMark (getD table i 0)) 0 m (omega arith))
 
       pub cells-all : i ≤ length table → length table ≤ i → out ≡ map withMark table
@@ -65,15 +78,15 @@ map-below n f g e [] low = refl
 map-below n f g e (x ∷ l) low = rw (e x (low zero), map-below n f g e l (λ i. low (suc i)))
 
 -- the whole sheet
-pub put-written : (h : Shape) (table : List ℕ) (pairs : List Pair) (out front end marks : List ℕ)
-    → ((i : ℕ) → getD table i 0 < h .states) → marks ≡ marksOf (body h table pairs)
-    → front ≡ map (withMark marks) table → end ≡ endOf h
+pub put-written : (h : Shape) (table : List ℕ) (pairs : List Pair) (out front end : List ℕ) (operations : List Operation)
+    → h .states ≤ 64 → ((i : ℕ) → getD table i 0 < h .states) → operations ≡ operationsOf (body h table pairs)
+    → front ≡ map (withMark operations) table → end ≡ endOf h
     → putMid (length table) (length (front ++ drop (length table) out) - length table) (front ++ drop (length table) out) end ≡ sheetOf (body h table pairs)
 unfolding sheetOf
-put-written h table pairs out front end marks low is-marks is-front is-end =
+put-written h table pairs out front end operations few low is-operations is-front is-end =
     let d = body h table pairs in
     let q : front ≡ map (cellAt d) table =
     is-front
-    ∙ map-below (h .states) (withMark marks) (cellAt d) (λ t b. rw (is-marks, marks-at d t b)) table low in
+    ∙ map-below (h .states) (withMark operations) (cellAt d) (λ t b. rw (is-operations, filled-at (operationAt d) (replicate 64 Halt) (h .states) t Halt b (omega arith))) table low in
     let n : length front ≡ length table = rw q (length-map table (cellAt d)) in
     part-rest front end (drop (length table) out) (length table) n ∙ rw (q, is-end)

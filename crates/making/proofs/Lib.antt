@@ -1,5 +1,4 @@
 -- what the loops and calls of src/cells.rt build
-pub mod MarkLaws
 pub mod CellLaws
 -- any two results that a promise allows are equal
 pub mod OneAnswer

@@ -1,19 +1,24 @@
 -- Laws of a pair's value and of the smallest value, as code comes to them. Assumes nothing.
-use Prim.Native.Nat.{ℕ, zero, suc, _-_, _^_, _≤_, _<_, min}
+use Prim.Native.Nat.{ℕ, zero, suc, _+_, _-_, _^_, _≤_, _<_, min}
 use native.Mathlib.Omega.{arith}
 use native.Mathlib.Decide.{ℕ-discrete}
 use mathlib.Core.Path.{_≡_}
 use mathlib.Core.Bool.{Bool, true, false, not, _&&_}
 use mathlib.Core.List.{List}
-use lib.ListN.{length, getD, take, drop, length-take, drop-of-length-le}
+use lib.ListN.{length, getD, take, drop, set, replicate, length-take, drop-of-length-le}
 use lib.Seq.{drop-cons, getD-take}
 use lib.Bits.{bitAnd}
 use lib.Dec.{eqb}
 use borrow.Author.Tests.{eq-eqb, ne-eqb}
 use Rattle.rule.specs.Sets.{has, meets}
-use Rattle.rule.specs.Operations.{smaller, valueOf, smallestOf}
+use Rattle.rule.specs.Arrays.{filled}
+use Rattle.rule.specs.Drawing.{body}
+use Rattle.rule.specs.Operations.{smaller, valueOf, smallestOf, reachOf, operationAt}
+use Rattle.rule.specs.Reach.{reachedWithin, reachedSets}
 use Rattle.rule.specs.Stopping.{stopsBy}
 use Rattle.rule.specs.declared.Pair.{Pair}
+use Rattle.rule.specs.declared.Shape.{Shape}
+use Rattle.rule.proofs.ArrayLaws.{filled-more, filled-at}
 use Rattle.rule.proofs.SetLaws.{and-none, and-some}
 use Rattle.rule.specs.declared.Operation.{Operation}
 use Rattle.rule.specs.declared.Operation.the-variants.{Halt, Store, Dump}
@@ -70,3 +75,15 @@ module _ (ps : List Pair) (count reached t : ℕ) where
   -- down to the first
   pub smallest-all : (i : ℕ) (least : Operation) → i ≤ 0 → least ≡ smallestOf (drop i (take count ps)) reached t → least ≡ smallestOf (take count ps) reached t
   smallest-all i least h is = let z : i ≡ 0 = omega arith in rw z at is
+
+-- one state more in the array of operations, its reached set taken from the array of sets
+pub operations-more : (h : Shape) (table : List ℕ) (pairs : List Pair) (sets : List ℕ) (a r : List Operation) (s : ℕ) (o : Operation)
+    → sets ≡ reachedSets table (h .states) (h .events) (replicate 64 0) (h .states) → s < h .states → s < 64
+    → o ≡ smallestOf (take (h .pairs) pairs) (getD sets s 0) s
+    → a ≡ filled (operationAt (body h table pairs)) (replicate 64 Halt) s → r ≡ set a s o
+    → r ≡ filled (operationAt (body h table pairs)) (replicate 64 Halt) (s + 1)
+unfolding operationAt reachOf
+operations-more h table pairs sets a r s o is-sets below held is so-far put =
+    let f : ℕ → ℕ = λ q. reachedWithin table (h .states) (h .events) q (h .states - 1) in
+    let e : getD sets s 0 ≡ f s = rw is-sets (filled-at f (replicate 64 0) (h .states) s 0 below (omega arith)) in
+    filled-more _ _ a r s o so-far (rw e at is) put

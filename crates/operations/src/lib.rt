@@ -1,11 +1,14 @@
 // The operation of a move, by its target, and the stopping states.
 ghost use mathlib.Core.Path.{_≡_};
 ghost use lib.ListN.{take};
-ghost use Rattle.rule.specs.Operations.{valueOf, smallestOf};
+ghost use Rattle.rule.specs.Drawing.{body};
+ghost use Rattle.rule.specs.Operations.{valueOf, smallestOf, operationsOf};
 ghost use Rattle.rule.specs.Stopping.{stopsBy};
+use reach::reached_sets;
 use reach::sets::contains;
 use rule::Operation;
 use rule::Pair;
+use rule::Shape;
 use rule::StateNo;
 
 // A pair's value at a target that reaches the set `reached`.
@@ -50,6 +53,22 @@ pub fn operation(pairs: [Pair; 8], count: u8, reached: u64, target: StateNo) -> 
         least = smaller(value(pairs[i], reached, target), least);
     }
     least
+}
+
+// At each state of a rule the operation of a move into it, and halt past the states.
+pub fn into_states(shape: Shape, table: &[u8], pairs: [Pair; 8]) -> [Operation; 64]
+    ensures { λ r. ⌜ r ≡ operationsOf (body shape (now (table .entry)) pairs) ⌝ }
+{
+    let states = shape.states;
+    let sets = reached_sets(table, states, shape.events, [0u64; 64]);
+    let mut operations = [Operation::Halt; 64];
+    for s in 0..states {
+        let at = s as usize;
+        if at < 64 {
+            operations[at] = operation(pairs, shape.pairs, sets[at], StateNo(s));
+        }
+    }
+    operations
 }
 
 // Whether a state that reaches the set `reached` is stopping by a pair.

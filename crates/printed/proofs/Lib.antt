@@ -4,7 +4,6 @@ pub mod LineLaws
 pub mod LoopLaws
 pub mod StopLaws
 pub mod CellLaws
-pub mod OperationLaws
 pub mod MonitorLaws
 pub mod LengthLaws
 pub mod PrintLaws

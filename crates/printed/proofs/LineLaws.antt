@@ -1,13 +1,14 @@
 -- Laws of lines: how long they are, and what is put word by word.
 -- Assumes nothing.
-use Prim.Native.Nat.{ℕ}
+use Prim.Native.Nat.{ℕ, zero, suc}
 use mathlib.Core.Path.{_≡_, refl, sym}
-use mathlib.Core.List.{List, [], _∷_, _++_, append-assoc, append-nil}
+use mathlib.Core.List.{List, [], _∷_, _++_, map, append-assoc, append-nil}
 use native.Mathlib.Omega.{arith}
-use lib.ListN.{length, length-append}
-use Rattle.printed.specs.Text.{spaced, line}
-use Rattle.printed.specs.Placing.{lineSize, Put}
-use Rattle.printed.proofs.PlacingLaws.{then}
+use lib.ListN.{length, getD, length-append}
+use Rattle.rulefile.specs.Layout.{flatUpTo}
+use Rattle.printed.specs.Text.{decimal, spaced, line}
+use Rattle.printed.specs.Placing.{Room, lineSize, Put}
+use Rattle.printed.proofs.PlacingLaws.{then, first-room, rest-room}
 
 pub spaced-append : (vs ws : List (List ℕ)) → spaced (vs ++ ws) ≡ spaced vs ++ spaced ws
 unfolding spaced
@@ -24,33 +25,50 @@ pub length-line : (first : List ℕ) (ws : List (List ℕ)) → length (line fir
 unfolding line
 length-line first ws = rw (length-append, length-append, length-spaced) (omega arith)
 
--- a line that is begun: its first word and some further ones are put
-record Begun (out : List ℕ) (at : ℕ) (first : List ℕ) (words : List (List ℕ)) (next : ℕ) (out′ : List ℕ) : Type 0 where
-  put : Put out at (first ++ spaced words) next out′
+-- numbers after spaces, one by one
+module _ (numbers : List ℕ) where
+  abbrev pub numberAt : ℕ → List ℕ
+  numberAt i = 32 ∷ decimal (getD numbers i 0)
 
-module _ {out first out₁ : List ℕ} {at at₁ : ℕ} where
-  begun : Put out at first at₁ out₁ → Begun out at first [] at₁ out₁
-  unfolding spaced
-  begun p = record { put = rw append-nil p }
+flat-first : (f : ℕ → List ℕ) (n : ℕ) → flatUpTo f (suc n) ≡ f 0 ++ flatUpTo (λ i. f (suc i)) n
+unfolding flatUpTo
+flat-first f zero = sym (append-nil (f 0))
+flat-first f (suc n) = rw (flat-first f n) (append-assoc (f 0) (flatUpTo (λ i. f (suc i)) n) (f (suc n)))
 
-  module _ {words : List (List ℕ)} {out₂ : List ℕ} {at₂ : ℕ} (b : Begun out at first words at₁ out₁) where
-    more : {w : List ℕ} → Put out₁ at₁ (32 ∷ w) at₂ out₂ → Begun out at first (words ++ (w ∷ [])) at₂ out₂
-    unfolding spaced
-    more {w} p =
-        let q : Put out₁ at₁ (spaced (w ∷ [])) at₂ out₂ = rw append-nil p in
-        record { put = rw (spaced-append, ← append-assoc first (spaced words)) (then (b .put) q) }
+flat-nothing : (f : ℕ → List ℕ) → flatUpTo f 0 ≡ []
+unfolding flatUpTo
+flat-nothing f = refl
 
-    done : Put out₁ at₁ (10 ∷ []) at₂ out₂ → Put out at (line first words) at₂ out₂
+pub numbers-flat : (numbers : List ℕ) → spaced (map decimal numbers) ≡ flatUpTo (numberAt numbers) (length numbers)
+unfolding spaced
+numbers-flat [] = sym (flat-nothing (numberAt []))
+numbers-flat (n ∷ numbers) = rw (flat-first (numberAt (n ∷ numbers)) (length numbers), numbers-flat numbers)
+
+-- a line part by part: there is room for each, and together they are the line
+module _ (first : List ℕ) (words : List (List ℕ)) (out : List ℕ) (at : ℕ) (room : Room out at (line first words)) where
+  pub word-room : Room out at first
+  unfolding line
+  word-room = first-room first _ out at room
+
+  module _ {out₁ : List ℕ} {at₁ : ℕ} (p : Put out at first at₁ out₁) where
+    after-room : Room out₁ at₁ (spaced words ++ (10 ∷ []))
     unfolding line
-    done p = rw (← append-assoc first (spaced words)) (then (b .put) p)
+    after-room = rest-room first _ p room
 
--- a line of a first word and three more, or five more
-module _ (first a b c : List ℕ) {out out₁ out₂ out₃ out₄ out₅ : List ℕ} {at at₁ at₂ at₃ at₄ at₅ : ℕ} where
-  pub three-more : Put out at first at₁ out₁ → Put out₁ at₁ (32 ∷ a) at₂ out₂ → Put out₂ at₂ (32 ∷ b) at₃ out₃ → Put out₃ at₃ (32 ∷ c) at₄ out₄
-      → Put out₄ at₄ (10 ∷ []) at₅ out₅ → Put out at (line first (a ∷ b ∷ c ∷ [])) at₅ out₅
-  three-more p q r s t = done (more (more (more (begun p) q) r) s) t
+    pub words-room : Room out₁ at₁ (spaced words)
+    words-room = first-room (spaced words) (10 ∷ []) out₁ at₁ after-room
 
-  pub five-more : (d e : List ℕ) {out₆ out₇ : List ℕ} {at₆ at₇ : ℕ} → Put out at first at₁ out₁ → Put out₁ at₁ (32 ∷ a) at₂ out₂ → Put out₂ at₂ (32 ∷ b) at₃ out₃
-      → Put out₃ at₃ (32 ∷ c) at₄ out₄ → Put out₄ at₄ (32 ∷ d) at₅ out₅ → Put out₅ at₅ (32 ∷ e) at₆ out₆
-      → Put out₆ at₆ (10 ∷ []) at₇ out₇ → Put out at (line first (a ∷ b ∷ c ∷ d ∷ e ∷ [])) at₇ out₇
-  five-more d e p q r s t u v = done (more (more (more (more (more (begun p) q) r) s) t) u) v
+    module _ {out₂ : List ℕ} {at₂ : ℕ} (q : Put out₁ at₁ (spaced words) at₂ out₂) where
+      pub end-room : Room out₂ at₂ (10 ∷ [])
+      end-room = rest-room (spaced words) (10 ∷ []) q after-room
+
+      pub line-put : {out₃ : List ℕ} {at₃ : ℕ} → Put out₂ at₂ (10 ∷ []) at₃ out₃ → Put out at (line first words) at₃ out₃
+      unfolding line
+      line-put r = then p (then q r)
+
+-- a line of a first word and three more, the last put with the line's end
+pub line-of-four : (a b c : List ℕ) {out first out₁ out₂ out₃ out₄ : List ℕ} {at at₁ at₂ at₃ at₄ : ℕ}
+    → Put out at first at₁ out₁ → Put out₁ at₁ (32 ∷ a) at₂ out₂ → Put out₂ at₂ (32 ∷ b) at₃ out₃ → Put out₃ at₃ (32 ∷ (c ++ (10 ∷ []))) at₄ out₄
+    → Put out at (line first (a ∷ b ∷ c ∷ [])) at₄ out₄
+unfolding line spaced
+line-of-four a b c p q r s = rw (append-nil, append-assoc a, append-assoc b) (then p (then q (then r s)))

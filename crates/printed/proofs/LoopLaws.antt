@@ -1,7 +1,7 @@
 -- What a loop of writers puts: the bytes f 0, f 1, .. one after the other.
 -- Assumes nothing.
 use Prim.Native.Nat.{ℕ, zero, suc, _+_, _*_, _≤_, _<_}
-use mathlib.Core.Path.{_≡_, refl}
+use mathlib.Core.Path.{_≡_}
 use mathlib.Core.List.{List}
 use native.Mathlib.Omega.{arith}
 use native.Mathlib.Numerals.{add-one}
@@ -27,12 +27,6 @@ pub flat-short : (f : ℕ → List ℕ) (b n : ℕ) → ((i : ℕ) → i < n →
 unfolding flatUpTo
 flat-short f b zero h = omega arith
 flat-short f b (suc n) h = rw length-append (omega (arith, h n (omega arith), flat-short f b n (λ i g. h i (omega arith))))
-
--- where two writers put the same
-pub flat-same : (f g : ℕ → List ℕ) (n : ℕ) → ((i : ℕ) → i < n → f i ≡ g i) → flatUpTo f n ≡ flatUpTo g n
-unfolding flatUpTo
-flat-same f g zero h = refl
-flat-same f g (suc n) h = rw (flat-same f g n (λ i l. h i (omega arith)), h n (omega arith))
 
 -- the loop's steps: nothing yet, room for the next, the next, all
 module _ (f : ℕ → List ℕ) (out : List ℕ) (at : ℕ) where

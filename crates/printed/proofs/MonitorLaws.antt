@@ -3,23 +3,23 @@
 use Prim.Native.Nat.{ℕ, zero, suc, _<_}
 use mathlib.Core.Path.{_≡_, refl, sym, ap, _∙_}
 use mathlib.Core.Bool.{Bool, true, false}
-use mathlib.Core.List.{List, _∷_, _++_}
+use mathlib.Core.List.{List, _++_}
 use mathlib.Core.Logic.{_↔_}
 use native.Mathlib.Omega.{arith}
-use lib.ListN.{getD}
+use lib.ListN.{getD, replicate}
 use Rattle.rule.specs.Drawing.{Drawing, states, events, next}
-use Rattle.rule.specs.Operations.{operationAt}
+use Rattle.rule.specs.Operations.{operationAt, operationsOf}
 use Rattle.rule.specs.Stopping.{stopping}
 use Rattle.rule.specs.WellDrawn.{WellDrawn}
 use Rattle.rule.specs.declared.Operation.{Operation}
 use Rattle.rule.specs.declared.Operation.the-variants.{Halt, Store, Dump}
+use Rattle.rule.proofs.ArrayLaws.{filled-at}
 use Rattle.rule.proofs.OperationLaws.{operation-halt}
-use Rattle.printed.specs.Placing.{Room, LineRoom, Put}
-use Rattle.printed.specs.Printing.{ruleWord, headerWords, header, cellLine, rowLines, cellLines, thoseBelow, stopLine, monitorText}
-use Rattle.printed.specs.Writers.{halts, Operations}
-use Rattle.printed.proofs.LoopLaws.{flat-same}
+use Rattle.rulefile.proofs.ListLaws.{flat-ext}
+use Rattle.printed.specs.Placing.{Room, Put}
+use Rattle.printed.specs.Printing.{header, cellLine, rowLines, cellLines, thoseBelow, stopLine, monitorText}
+use Rattle.printed.specs.Writers.{halts}
 use Rattle.printed.proofs.PlacingLaws.{then, first-room, rest-room}
-use Rattle.printed.proofs.LineLaws.{length-line}
 
 halts-is : (o : Operation) (b : Bool) → (o ≡ Halt) ↔ (b ≡ true) → halts o ≡ b
 halts-is Halt b e = sym (e .0 refl)
@@ -35,7 +35,7 @@ those-same a b (suc n) h = rw (those-same a b n (λ q l. h q (omega arith)), h n
 
 cells-same : (next : ℕ → ℕ → ℕ) (a b : ℕ → Operation) (k n : ℕ) → ((s e : ℕ) → s < n → e < k → a (next s e) ≡ b (next s e)) → cellLines next a k n ≡ cellLines next b k n
 unfolding cellLines rowLines
-cells-same next a b k n h = flat-same _ _ n (λ s l. flat-same _ _ k (λ e m. ap (cellLine s e (next s e)) (h s e l m)))
+cells-same next a b k n h = flat-ext _ _ n (λ s l. flat-ext _ _ k (λ e m. ap (cellLine s e (next s e)) (h s e l m)))
 
 module _ {d : Drawing} (well : WellDrawn d) where
   -- a state is stopping exactly where a move into it halts
@@ -43,7 +43,10 @@ module _ {d : Drawing} (well : WellDrawn d) where
   halts-stops q h = halts-is (operationAt d q) (stopping d q) (operation-halt d well q h)
 
   -- the monitor by an array of the operations
-  module _ {l : List Operation} (array : Operations d l) where
+  module _ {l : List Operation} (array : l ≡ operationsOf d) where
+    operation-at : (q : ℕ) → q < states d → getD l q Halt ≡ operationAt d q
+    operation-at q h = rw array (filled-at (operationAt d) (replicate 64 Halt) (states d) q Halt h (omega (arith, well .few-states)))
+
     abbrev into : ℕ → Operation
     into t = getD l t Halt
 
@@ -51,8 +54,8 @@ module _ {d : Drawing} (well : WellDrawn d) where
     unfolding monitorText stopLine
     monitor-is =
         rw (
-          cells-same (next d) into (operationAt d) (events d) (states d) (λ s e a b. array .each (next d s e) (well .closed s e a b)),
-          those-same (λ q. halts (into q)) (stopping d) (states d) (λ q h. ap halts (array .each q h) ∙ halts-stops q h),
+          cells-same (next d) into (operationAt d) (events d) (states d) (λ s e a b. operation-at (next d s e) (well .closed s e a b)),
+          those-same (λ q. halts (into q)) (stopping d) (states d) (λ q h. ap halts (operation-at q h) ∙ halts-stops q h),
         )
 
     abbrev cells : List ℕ
@@ -66,9 +69,8 @@ module _ {d : Drawing} (well : WellDrawn d) where
       whole-room : Room out 0 (header (d .shape) ++ (cells ++ stops))
       whole-room = rw monitor-is at room
 
-      pub header-room : LineRoom out 0 (ruleWord ∷ headerWords (d .shape))
-      unfolding header
-      header-room = omega (arith, first-room (header (d .shape)) (cells ++ stops) out 0 whole-room, length-line ruleWord (headerWords (d .shape)))
+      pub header-room : Room out 0 (header (d .shape))
+      header-room = first-room (header (d .shape)) (cells ++ stops) out 0 whole-room
 
       module _ {out₁ : List ℕ} {at₁ : ℕ} (p : Put out 0 (header (d .shape)) at₁ out₁) where
         both-room : Room out₁ at₁ (cells ++ stops)

@@ -25,10 +25,9 @@ use Rattle.rulefile.specs.declared.Contents.{Contents}
 use Rattle.rulefile.specs.declared.Written.{Written}
 use Rattle.rulefile.specs.declared.Written.the-variants.{Done, Refused}
 use Rattle.rulefile.proofs.PartsLaws.{SoundFile, sound-file, shape-drawn, pairs-drawn, SoundParts, sound-parts, parts-verdict}
-use Rattle.printed.specs.Placing.{Room, LineRoom, pasted, Put}
-use Rattle.printed.specs.Printing.{refusedWord, refusalWords, refusalLine, monitorText, textOf, PrintPromise}
+use Rattle.printed.specs.Placing.{Room, pasted, Put}
+use Rattle.printed.specs.Printing.{refusalLine, monitorText, textOf, PrintPromise}
 use Rattle.printed.proofs.LengthLaws.{refusal-short, monitor-short}
-use Rattle.printed.proofs.LineLaws.{length-line}
 
 -- ---- a sound file's drawing
 
@@ -102,9 +101,8 @@ all-put f out h p =
     record { answer = rw (le-leb 32768 (length out) h) (ap Done (p .place ∙ z)); output = rw (le-leb 32768 (length out) h) (rw z at (p .output)) }
 
 -- a refusal
-pub refusal-room : (out : List ℕ) (t : Told) → 32768 ≤ length out → LineRoom out 0 (refusedWord ∷ refusalWords t)
-unfolding refusalLine
-refusal-room out t h = omega (arith, refusal-short t, length-line refusedWord (refusalWords t))
+pub refusal-room : (out : List ℕ) (t : Told) → 32768 ≤ length out → Room out 0 (refusalLine t)
+refusal-room out t h = omega (arith, refusal-short t)
 
 module _ (f : List ℕ) {c : Contents} (is : c ≡ partsOf f) where
   pub refusal-put : {out out′ : List ℕ} {r : Refusal} {t : Told} {next : ℕ} → 32768 ≤ length out → c .verdict ≡ Unsound r → t ≡ toldOf r

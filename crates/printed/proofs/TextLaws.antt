@@ -1,15 +1,17 @@
--- Laws of numbers in decimal and of lines: how long they are, and what is put digit by digit and word by word.
+-- Laws of numbers in decimal: how long they are, and what is put digit by digit.
 -- Assumes nothing.
-use Prim.Native.Nat.{ℕ, _+_, _/_, _%_, _≤_, _<_}
-use mathlib.Core.Path.{_≡_, ap}
-use mathlib.Core.List.{List, [], _∷_}
+use Prim.Native.Nat.{ℕ, _/_, _%_, _≤_, _<_}
+use mathlib.Core.Path.{_≡_}
+use mathlib.Core.Bool.{cond}
+use mathlib.Core.List.{List, [], _∷_, _++_}
 use native.Mathlib.Omega.{arith}
 use native.Mathlib.Decide.{decLt}
 use lib.ListN.{length}
-use borrow.Author.Tests.{lt-ltb, le-ltb}
+use lib.Dec.{leb}
+use borrow.Author.Tests.{lt-ltb, le-ltb, lt-leb, le-leb}
 use Rattle.printed.specs.Text.{digit, decimal}
 use Rattle.printed.specs.Placing.{Room, Put}
-use Rattle.printed.proofs.PlacingLaws.{then, put-length}
+use Rattle.printed.proofs.PlacingLaws.{then, first-room, put-nothing}
 
 -- one digit, two digits, three digits
 pub decimal-one : (n : ℕ) → n < 10 → decimal n ≡ digit n ∷ []
@@ -43,32 +45,37 @@ decimal-most n = by-digits (λ l. length l ≤ 3) n (λ h. omega arith) (λ l h.
 pub decimal-short : (n : ℕ) → n < 100 → length (decimal n) ≤ 2
 decimal-short n s = by-digits (λ l. length l ≤ 2) n (λ h. omega arith) (λ l h. omega arith) (λ l. omega arith)
 
--- digit by digit: there is room for each, and together they are the number
-module _ (out : List ℕ) (at n : ℕ) where
-  pub first-room : Room out at (decimal n) → at + 1 ≤ length out
-  first-room = by-digits (λ l. Room out at l → at + 1 ≤ length out) n (λ h r. omega arith) (λ l h r. omega arith) (λ l r. omega arith)
+-- the digits before the last, each where the number has it
+abbrev pub hundreds : ℕ → List ℕ
+hundreds n = cond (leb 100 n) (digit (n / 100) ∷ []) []
 
-  pub put-one : {at′ : ℕ} {out′ : List ℕ} → n < 10 → Put out at (digit n ∷ []) at′ out′ → Put out at (decimal n) at′ out′
-  put-one h p = rw (decimal-one n h) p
+abbrev pub tens : ℕ → List ℕ
+tens n = cond (leb 10 n) (digit (n / 10 % 10) ∷ []) []
 
-  module _ {out₁ : List ℕ} {at₁ a : ℕ} (p : Put out at (a ∷ []) at₁ out₁) where
-    pub second-room : 10 ≤ n → Room out at (decimal n) → at₁ + 1 ≤ length out₁
-    second-room s =
-        let k = put-length p in
-        by-digits (λ l. Room out at l → at₁ + 1 ≤ length out₁) n (λ h r. omega arith) (λ l h r. omega (arith, p .place)) (λ l r. omega (arith, p .place))
+abbrev pub units : ℕ → List ℕ
+units n = digit (n % 10) ∷ []
 
-    pub third-room : {out₂ : List ℕ} {at₂ b : ℕ} → 100 ≤ n → Room out at (decimal n) → Put out₁ at₁ (b ∷ []) at₂ out₂ → at₂ + 1 ≤ length out₂
-    third-room s r q = omega (arith, put-length p, put-length q, p .place, q .place, ap length (decimal-three n s))
+pub decimal-is : (n : ℕ) → decimal n ≡ hundreds n ++ (tens n ++ units n)
+decimal-is n =
+    by-digits (λ l. l ≡ hundreds n ++ (tens n ++ units n)) n
+    (λ h. let e : n % 10 ≡ n = omega arith in rw (lt-leb 100 n (omega arith), lt-leb 10 n h, e))
+    (λ l h. let e : n / 10 % 10 ≡ n / 10 = omega arith in rw (lt-leb 100 n h, le-leb 10 n l, e))
+    (λ l. rw (le-leb 100 n l, le-leb 10 n (omega arith)))
 
-  pub put-two : {out₁ out₂ : List ℕ} {at₁ at₂ : ℕ} → 10 ≤ n → n < 100
-      → Put out at (digit (n / 10) ∷ []) at₁ out₁ → Put out₁ at₁ (digit (n % 10) ∷ []) at₂ out₂ → Put out at (decimal n) at₂ out₂
-  put-two l h p q = rw (decimal-two n l h) (then p q)
+-- a digit that the number has where it is `least` or more: there is room for it; it is put, or nothing is
+module _ (least n d : ℕ) (out : List ℕ) (at : ℕ) where
+  abbrev digits : List ℕ
+  digits = cond (leb least n) (d ∷ []) []
 
-  pub put-three : {out₁ out₂ out₃ : List ℕ} {at₁ at₂ at₃ : ℕ} → 100 ≤ n
-      → Put out at (digit (n / 100) ∷ []) at₁ out₁ → Put out₁ at₁ (digit (n / 10 % 10) ∷ []) at₂ out₂ → Put out₂ at₂ (digit (n % 10) ∷ []) at₃ out₃
-      → Put out at (decimal n) at₃ out₃
-  put-three l p q r = rw (decimal-three n l) (then p (then q r))
+  pub digit-room : (rest : List ℕ) → Room out at (digits ++ rest) → least ≤ n → Room out at (d ∷ [])
+  digit-room rest r h = first-room (d ∷ []) rest out at (rw (le-leb least n h) at r)
 
-  -- after a space
-  pub put-spaced : {out₁ out₂ : List ℕ} {at₁ at₂ : ℕ} → Put out at (32 ∷ []) at₁ out₁ → Put out₁ at₁ (decimal n) at₂ out₂ → Put out at (32 ∷ decimal n) at₂ out₂
-  put-spaced p q = then p q
+  pub digit-put : {at′ : ℕ} {out′ : List ℕ} → least ≤ n → Put out at (d ∷ []) at′ out′ → Put out at digits at′ out′
+  digit-put h p = rw (le-leb least n h) p
+
+  pub digit-none : (rest : List ℕ) → Room out at (digits ++ rest) → n < least → Put out at digits at out
+  digit-none rest r h = rw (lt-leb least n h) (put-nothing out at (omega (arith, rw (lt-leb least n h) at r)))
+
+-- a number after a space
+pub put-spaced : {out out₁ out₂ : List ℕ} {at at₁ at₂ : ℕ} (n : ℕ) → Put out at (32 ∷ []) at₁ out₁ → Put out₁ at₁ (decimal n) at₂ out₂ → Put out at (32 ∷ decimal n) at₂ out₂
+put-spaced n p q = then p q

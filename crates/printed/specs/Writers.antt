@@ -1,19 +1,16 @@
--- What the writers of lines go by: the operations in an array, and the stopping states put one by one.
+-- What the writers of lines put: the end of a cell, and the stopping states one by one.
 -- Assumes nothing.
-use Prim.Native.Nat.{ℕ, _<_}
-use mathlib.Core.Path.{_≡_}
+use Prim.Native.Nat.{ℕ}
 use mathlib.Core.Bool.{Bool, true, false, cond}
-use mathlib.Core.List.{List, [], _∷_}
-use lib.ListN.{getD}
-use Rattle.rule.specs.Drawing.{Drawing, states}
-use Rattle.rule.specs.Operations.{operationAt}
+use mathlib.Core.List.{List, [], _∷_, _++_}
 use Rattle.rule.specs.declared.Operation.{Operation}
 use Rattle.rule.specs.declared.Operation.the-variants.{Halt, Store, Dump}
 use Rattle.printed.specs.Text.{decimal, spaced}
+use Rattle.printed.specs.Printing.{operationWord}
 
--- an array that has, at each state of the rule, the operation of a move into it
-pub record Operations (d : Drawing) (l : List Operation) : Type 0 where
-  pub each : (q : ℕ) → q < states d → getD l q Halt ≡ operationAt d q
+-- the end of a cell's line: the operation's word after a space, and byte 10
+abbrev pub cellEnd : Operation → List ℕ
+cellEnd operation = 32 ∷ (operationWord operation ++ (10 ∷ []))
 
 -- whether an operation is halt: a state is stopping where a move into it halts
 abbrev pub halts : Operation → Bool

@@ -1,47 +1,25 @@
 // The printed monitor: the text that the program `table` writes for a rule file (document 01, "The printed monitor").
-ghost use Prim.Native.Nat.{_≤_};
 ghost use Rattle.rule.specs.Drawing.{body};
 ghost use Rattle.rule.specs.WellDrawn.{WellDrawn};
 ghost use Rattle.printed.specs.Placing.{Room, Put};
 ghost use Rattle.printed.specs.Printing.{monitorText, PrintPromise};
-ghost use Rattle.printed.specs.Writers.{Operations};
 
 mod lines;
 mod text;
 
-use operations::operation;
-use reach::reached;
-use rule::Operation;
+use operations::into_states;
 use rule::Pair;
 use rule::Refusal;
 use rule::Shape;
-use rule::StateNo;
 use rule::Verdict;
 use rulefile::Written;
-
-// The operation of a move into each state of the rule.
-fn operations(shape: Shape, table: &[u8], pairs: [Pair; 8]) -> [Operation; 64]
-    requires { ⌜ shape .states ≤ 64 ⌝ }
-    ensures { λ r. ⌜ Operations (body shape (now (table .entry)) pairs) r ⌝ }
-{
-    let states = shape.states;
-    let events = shape.events;
-    let count = shape.pairs;
-    let mut operations = [Operation::Halt; 64];
-    for q in 0..states {
-        let reach = reached(table, states, events, StateNo(q));
-        let at = q as usize;
-        operations[at] = operation(pairs, count, reach, StateNo(q));
-    }
-    operations
-}
 
 // Prints the monitor of a sound rule to the front of the output.
 fn put_monitor(out: &mut [u8], shape: Shape, table: &[u8], pairs: [Pair; 8]) -> usize
     requires { ⌜ WellDrawn (body shape (now table) pairs) × Room (now out) 0 (monitorText (body shape (now table) pairs)) ⌝ }
     ensures { λ r. ⌜ Put (now (out .entry)) 0 (monitorText (body shape (now (table .entry)) pairs)) r (now (out .exit)) ⌝ }
 {
-    let operations = operations(shape, table, pairs);
+    let operations = into_states(shape, table, pairs);
     let cells = lines::put_header(out, 0, shape);
     let stop = lines::put_cells(out, cells, shape.states, table, shape.events, operations);
     lines::put_stop_line(out, stop, shape.states, operations)

@@ -1,16 +1,17 @@
 // The lines of a printed monitor, into an output from a place on. Each writer answers the place after what it wrote.
 ghost use mathlib.Core.Path.{_≡_};
-ghost use mathlib.Core.List.{[], _∷_};
+ghost use mathlib.Core.List.{_∷_};
 ghost use lib.ListN.{getD};
 ghost use Rattle.rule.specs.Reach.{target};
 ghost use Rattle.rule.specs.declared.Operation.the-variants.{Halt};
 ghost use Rattle.rulefile.specs.Layout.{flatUpTo};
 ghost use Rattle.printed.specs.Placing.{Room, LineRoom, Put};
-ghost use Rattle.printed.specs.Printing.{ruleWord, refusedWord, operationWord, headerWords, header, moveWords, cellLine, rowLines, cellLines, stopLine, refusalWords, refusalLine};
+ghost use Rattle.printed.specs.Printing.{header, moveWords, cellLine, rowLines, cellLines, stopLine, refusalLine};
 ghost use Rattle.printed.specs.Text.{decimal};
-ghost use Rattle.printed.specs.Writers.{halts, stopIf, stopAt};
+ghost use Rattle.printed.specs.Writers.{cellEnd, halts, stopIf, stopAt};
 use crate::text::put_byte;
 use crate::text::put_decimal;
+use crate::text::put_line;
 use crate::text::put_number;
 use crate::text::put_word;
 use reach::next;
@@ -22,28 +23,37 @@ use rule::Told;
 
 // The first line: class, N, K, m, initial state.
 pub(crate) fn put_header(out: &mut [u8], at: usize, shape: Shape) -> usize
-    requires { ⌜ LineRoom (now out) at (ruleWord ∷ headerWords shape) ⌝ }
+    requires { ⌜ Room (now out) at (header shape) ⌝ }
     ensures { λ r. ⌜ Put (now (out .entry)) at (header shape) r (now (out .exit)) ⌝ }
 {
     let initial = shape.initial;
-    let mut end = put_word(out, at, b"rule");
-    end = put_number(out, end, shape.class);
-    end = put_number(out, end, shape.states);
-    end = put_number(out, end, shape.events);
-    end = put_number(out, end, shape.pairs);
-    end = put_number(out, end, initial.0);
-    put_byte(out, end, 10)
+    let numbers = [
+        shape.class,
+        shape.states,
+        shape.events,
+        shape.pairs,
+        initial.0,
+    ];
+    put_line(out, at, b"rule", &numbers)
 }
 
-// An operation's word after a space.
+// The only line of a refusal: its number and places.
+pub(crate) fn put_refusal(out: &mut [u8], at: usize, told: Told) -> usize
+    requires { ⌜ Room (now out) at (refusalLine told) ⌝ }
+    ensures { λ r. ⌜ Put (now (out .entry)) at (refusalLine told) r (now (out .exit)) ⌝ }
+{
+    put_line(out, at, b"refused", &[told.number, told.a, told.b])
+}
+
+// The end of a cell: the operation's word after a space.
 fn put_operation(out: &mut [u8], at: usize, operation: Operation) -> usize
-    requires { ⌜ Room (now out) at (32 ∷ operationWord operation) ⌝ }
-    ensures { λ r. ⌜ Put (now (out .entry)) at (32 ∷ operationWord operation) r (now (out .exit)) ⌝ }
+    requires { ⌜ Room (now out) at (cellEnd operation) ⌝ }
+    ensures { λ r. ⌜ Put (now (out .entry)) at (cellEnd operation) r (now (out .exit)) ⌝ }
 {
     match operation {
-        Operation::Halt => put_word(out, at, b" halt"),
-        Operation::Store => put_word(out, at, b" store"),
-        Operation::Dump => put_word(out, at, b" dump"),
+        Operation::Halt => put_word(out, at, b" halt\n"),
+        Operation::Store => put_word(out, at, b" store\n"),
+        Operation::Dump => put_word(out, at, b" dump\n"),
     }
 }
 
@@ -62,8 +72,7 @@ fn put_cell(
     let mut end = put_decimal(out, at, s.0);
     end = put_number(out, end, e.0);
     end = put_number(out, end, t.0);
-    end = put_operation(out, end, operation);
-    put_byte(out, end, 10)
+    put_operation(out, end, operation)
 }
 
 // The operation of a move into t.
@@ -156,17 +165,5 @@ pub(crate) fn put_stop_line(
     if end == words {
         return put_word(out, end, b" -\n");
     }
-    put_byte(out, end, 10)
-}
-
-// The only line of a refusal: its number and places.
-pub(crate) fn put_refusal(out: &mut [u8], at: usize, told: Told) -> usize
-    requires { ⌜ LineRoom (now out) at (refusedWord ∷ refusalWords told) ⌝ }
-    ensures { λ r. ⌜ Put (now (out .entry)) at (refusalLine told) r (now (out .exit)) ⌝ }
-{
-    let mut end = put_word(out, at, b"refused");
-    end = put_number(out, end, told.number);
-    end = put_number(out, end, told.a);
-    end = put_number(out, end, told.b);
     put_byte(out, end, 10)
 }

@@ -1,7 +1,7 @@
 // Text into an output, from a place on. Each writer answers the place after what it wrote.
-ghost use mathlib.Core.List.{[], _∷_};
+ghost use mathlib.Core.List.{[], _∷_, map};
 ghost use Rattle.printed.specs.Placing.{Room, Put};
-ghost use Rattle.printed.specs.Text.{decimal};
+ghost use Rattle.printed.specs.Text.{decimal, spaced, line};
 
 // A byte.
 pub(crate) fn put_byte(out: &mut [u8], at: usize, byte: u8) -> usize
@@ -26,16 +26,14 @@ pub(crate) fn put_decimal(out: &mut [u8], at: usize, n: u8) -> usize
     requires { ⌜ Room (now out) at (decimal n) ⌝ }
     ensures { λ r. ⌜ Put (now (out .entry)) at (decimal n) r (now (out .exit)) ⌝ }
 {
-    if n < 10 {
-        return put_byte(out, at, 48 + n);
+    let mut end = at;
+    if 100 <= n {
+        end = put_byte(out, end, 48 + n / 100);
     }
-    if n < 100 {
-        let second = put_byte(out, at, 48 + n / 10);
-        return put_byte(out, second, 48 + n % 10);
+    if 10 <= n {
+        end = put_byte(out, end, 48 + n / 10 % 10);
     }
-    let second = put_byte(out, at, 48 + n / 100);
-    let third = put_byte(out, second, 48 + n / 10 % 10);
-    put_byte(out, third, 48 + n % 10)
+    put_byte(out, end, 48 + n % 10)
 }
 
 // A number in decimal after a space.
@@ -45,4 +43,29 @@ pub(crate) fn put_number(out: &mut [u8], at: usize, n: u8) -> usize
 {
     let digits = put_byte(out, at, 32);
     put_decimal(out, digits, n)
+}
+
+// Each of some numbers in decimal after a space.
+fn put_numbers(out: &mut [u8], at: usize, numbers: &[u8]) -> usize
+    requires { ⌜ Room (now out) at (spaced (map decimal (now numbers))) ⌝ }
+    ensures { λ r. ⌜ Put (now (out .entry)) at (spaced (map decimal (now (numbers .entry)))) r (now (out .exit)) ⌝ }
+{
+    let mut end = at;
+    let mut i = 0;
+    while i < numbers.len() {
+        let n = numbers[i];
+        end = put_number(out, end, n);
+        i += 1;
+    }
+    end
+}
+
+// A line of a word and some numbers.
+pub(crate) fn put_line(out: &mut [u8], at: usize, word: &[u8], numbers: &[u8]) -> usize
+    requires { ⌜ Room (now out) at (line (now word) (map decimal (now numbers))) ⌝ }
+    ensures { λ r. ⌜ Put (now (out .entry)) at (line (now (word .entry)) (map decimal (now (numbers .entry)))) r (now (out .exit)) ⌝ }
+{
+    let words = put_word(out, at, word);
+    let end = put_numbers(out, words, numbers);
+    put_byte(out, end, 10)
 }

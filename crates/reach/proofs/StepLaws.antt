@@ -7,15 +7,14 @@ use Prim.Native.Nat.{ℕ, zero, suc, _+_, _-_, _*_, _/_, _^_, _≤_, _<_}
 use native.Mathlib.Omega.{arith}
 use native.Mathlib.Nat.{add-zero, add-suc}
 use native.Mathlib.Numerals.{add-one}
-use lib.ListN.{length, getD, set, List·getD-eq-default}
-use lib.Seq.{set-out}
+use lib.ListN.{length, getD, List·getD-eq-default}
 use lib.Bits.{bitXor}
 use lib.Count.{trailingZeros}
 use lib.Pow.{shr-shr, shr-le}
 use mir.Syntax.{w8}
 use mir.Val.{Fits}
 use Rattle.rule.specs.Sets.{has, including}
-use Rattle.rule.specs.Reach.{target, withMoves, movedBelow, movedSet, spread, reachedWithin, reachedSets}
+use Rattle.rule.specs.Reach.{target, withMoves, movedBelow, movedSet, spread, reachedWithin}
 use Rattle.rule.proofs.SetLaws.{has-none, has-past, has-shifted, lowest-in, lowest-first, below-or}
 use Rattle.rule.proofs.MoveLaws.{moved-fresh}
 use Rattle.rule.proofs.BoolLaws.{clash}
@@ -152,21 +151,3 @@ module _ (table : List ℕ) (n k : ℕ) where
 
   pub within-none : (q m r : ℕ) → n ≤ 0 → m ≡ 0 → r ≡ reachedWithin table n k q m → r ≡ reachedWithin table n k q (n - 1)
   within-none q m r hn hm ir = within-all q m r (omega arith) ir
-
-  pub sets-none : (sets : List ℕ) → sets ≡ reachedSets table n k sets 0
-  unfolding reachedSets
-  sets-none sets = refl
-
-  pub sets-more : (sets : List ℕ) (s x : ℕ) (l r : List ℕ) → l ≡ reachedSets table n k sets s → x ≡ reachedWithin table n k s (n - 1) → r ≡ set l s x → r ≡ reachedSets table n k sets (s + 1)
-  unfolding reachedSets
-  sets-more sets s x l r il ix ir = rw add-one (cc)
-
-  -- a state past the array
-  pub sets-past : (sets : List ℕ) (s i : ℕ) (l r : List ℕ) → l ≡ reachedSets table n k sets s → length l ≡ i → i ≤ s → r ≡ l → r ≡ reachedSets table n k sets (s + 1)
-  unfolding reachedSets
-  sets-past sets s i l r il len h ir =
-      let same : set l s (reachedWithin table n k s (n - 1)) ≡ l = set-out l s (reachedWithin table n k s (n - 1)) (omega arith) in
-      rw add-one (cc)
-
-  pub sets-all : (sets : List ℕ) (s : ℕ) (l : List ℕ) → l ≡ reachedSets table n k sets s → s ≤ n → n ≤ s → l ≡ reachedSets table n k sets n
-  sets-all sets s l il le ge = let q : s ≡ n = omega arith in il ∙ ap (reachedSets table n k sets) q

@@ -1,5 +1,7 @@
 -- what code computes of bytes
 pub mod ByteLaws
+-- arrays that are filled from the front
+pub mod ArrayLaws
 -- sets of states, and what they reach
 pub mod SetLaws
 pub mod MoveLaws

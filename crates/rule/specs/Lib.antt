@@ -1,3 +1,4 @@
+pub mod Arrays
 pub mod Sets
 pub mod Reach
 pub mod Drawing

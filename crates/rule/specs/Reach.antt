@@ -4,7 +4,8 @@ use Prim.Native.Nat.{ℕ, zero, suc, _+_, _-_, _*_, _≤_, _<_}
 use mathlib.Core.Path.{_≡_}
 use mathlib.Core.Bool.{cond}
 use mathlib.Core.List.{List, [], _∷_}
-use lib.ListN.{length, getD, set}
+use lib.ListN.{length, getD}
+use Rattle.rule.specs.Arrays.{filled}
 use Rattle.rule.specs.Sets.{has, including}
 
 -- the state to which event e leads from state s
@@ -61,6 +62,5 @@ unfoldable pub reachedWithin : List ℕ → ℕ → ℕ → ℕ → ℕ → ℕ
 reachedWithin table n k q m = spread table n k (including 0 q) m
 
 -- an array with, at each state below i, the set that it reaches
-unfoldable pub reachedSets : List ℕ → ℕ → ℕ → List ℕ → ℕ → List ℕ
-reachedSets table n k sets zero = sets
-reachedSets table n k sets (suc i) = set (reachedSets table n k sets i) i (reachedWithin table n k i (n - 1))
+abbrev pub reachedSets : List ℕ → ℕ → ℕ → List ℕ → ℕ → List ℕ
+reachedSets table n k sets i = filled (λ s. reachedWithin table n k s (n - 1)) sets i

@@ -3,21 +3,17 @@
 use Prim.Native.Nat.{ℕ, _+_, _*_}
 use mathlib.Core.List.{List, _∷_, _++_, map}
 use Rattle.octets.specs.Numbers.{digits}
-use Rattle.rule.specs.Drawing.{Drawing, states, padded}
+use Rattle.rule.specs.Drawing.{Drawing}
 use Rattle.rule.specs.Operations.{markOf, operationAt}
 use Rattle.rule.specs.declared.Shape.{Shape}
-use Rattle.rulefile.specs.Layout.{drawingIn, upTo}
+use Rattle.rulefile.specs.Layout.{drawingIn}
 use Rattle.rulefile.specs.Reading.{verdictOn}
 use Rattle.rulefile.specs.Writing.{PutPromise}
 use Rattle.rulefile.specs.declared.Written.{Written}
 
--- 64 times the operation of a move into t
-abbrev pub markAt : Drawing → ℕ → ℕ
-markAt d t = 64 * markOf (operationAt d t)
-
 -- the cell of a move into t: next state + 64 * operation
 abbrev pub cellAt : Drawing → ℕ → ℕ
-cellAt d t = t + markAt d t
+cellAt d t = t + 64 * markOf (operationAt d t)
 
 -- N, K, initial state, 77, and the distance back to the first cell
 abbrev pub endOf : Shape → List ℕ
@@ -26,10 +22,6 @@ endOf s = s .states ∷ s .events ∷ s .initial .0 ∷ 77 ∷ digits 2 (s .stat
 -- the sheet of a drawing
 unfoldable pub sheetOf : Drawing → List ℕ
 sheetOf d = map (cellAt d) (d .table) ++ endOf (d .shape)
-
--- the marks of all states, and 0 past them
-unfoldable pub marksOf : Drawing → List ℕ
-marksOf d = padded 64 0 (upTo (markAt d) (states d))
 
 -- the promise of making a sheet from a rule file
 abbrev pub MakePromise : List ℕ → List ℕ → Written → List ℕ → Type 0

@@ -5,20 +5,20 @@ use Rattle.printed.proofs.MonitorLaws.{header-room, cells-room, stops-r
 use Rattle.printed.proofs.put_monitor.Statement.{statement}
 use Rattle.printed.proofs.put_monitor.Tie as tie
 
-operations-requires : tie.Need-operations-requires
-operations-requires c κs = search needs
+into-states-requires : tie.Need-into-states-requires
+into-states-requires c κs = search needs
 
 put-header-requires : tie.Need-put-header-requires
 put-header-requires c κs =
     let start = c .before .before .before .before in
-    header-room (start .pre .0) (c .before .operations .ensures) (start .args .out .now) (start .pre .1)
+    header-room (start .pre .0) (c .before .into-states .ensures) (start .args .out .now) (start .pre .1)
 
 put-cells-requires : tie.Need-put-cells-requires
 put-cells-requires c κs =
     let header = c .before .before .before in
     let made = header .before .before in
     let start = made .before .before .before in
-    cells-room (start .pre .0) (made .operations .ensures) (start .args .out .now) (start .pre .1) (header .put-header .ensures)
+    cells-room (start .pre .0) (made .into-states .ensures) (start .args .out .now) (start .pre .1) (header .put-header .ensures)
 
 put-stop-line-requires : tie.Need-put-stop-line-requires
 put-stop-line-requires c κs =
@@ -26,7 +26,7 @@ put-stop-line-requires c κs =
     let header = cells .before .before .before .before in
     let made = header .before .before in
     let start = made .before .before .before in
-    stops-room (start .pre .0) (made .operations .ensures) (start .args .out .now) (start .pre .1) (header .put-header .ensures) (cells .put-cells .ensures)
+    stops-room (start .pre .0) (made .into-states .ensures) (start .args .out .now) (start .pre .1) (header .put-header .ensures) (cells .put-cells .ensures)
 
 same-length : tie.Need-same-length
 same-length c = search needs
@@ -38,7 +38,7 @@ pub put-monitor-spec : {M : Type 1} → statement M
 put-monitor-spec =
     tie.close
     (tie.spec
-    operations-requires
+    into-states-requires
     put-header-requires
     put-cells-requires
     put-stop-line-requires

@@ -6,7 +6,7 @@ use mathlib.Core.Logic.{⊎-elim}
 use Prim.Native.Nat.{_≤_, _-_}
 use lib.ListN.{length}
 use Rattle.rule.specs.Reach.{reachedSets}
-use Rattle.reach.proofs.StepLaws.{sets-none, sets-more, sets-past, sets-all}
+use Rattle.rule.proofs.ArrayLaws.{filled-none, filled-more, filled-past, filled-all}
 use Rattle.reach.proofs.reached_sets.Statement.{statement}
 use Rattle.reach.proofs.reached_sets.Tie as tie
 
@@ -17,7 +17,7 @@ abbrev μ-loop : tie.MeasureT-loop
 μ-loop table states events sets₀ s₀ sets s = states - s
 
 loop-holds : tie.Need-loop-holds Inv-loop μ-loop
-loop-holds c = (search needs, sets-none _ _ _ _, search needs)
+loop-holds c = (search needs, filled-none _ _, search needs)
 
 cast-at : tie.Need-cast-at Inv-loop μ-loop
 cast-at c = search needs
@@ -40,12 +40,12 @@ loop-less c = search needs
 loop-again : tie.Need-loop-again Inv-loop μ-loop
 loop-again c = (
   search needs,
-  ⊎-elim (λ w. search (needs, sets-more)) (λ w. search (needs, sets-past)) (c .if1 .came),
+  ⊎-elim (λ w. search (needs, filled-more)) (λ w. search (needs, filled-past)) (c .if1 .came),
   ⊎-elim (λ w. rw (w .2) (search needs)) (λ w. rw (w .1) (search needs)) (c .if1 .came),
 )
 
 returns : tie.Need-returns Inv-loop μ-loop
-returns c = search (needs, sets-all)
+returns c = search (needs, filled-all)
 
 pub reached-sets-spec : {M : Type 1} → statement M
 reached-sets-spec =

@@ -2,14 +2,13 @@
 use mathlib.Core.Path.{sym}
 use native.Mathlib.Omega.{arith}
 use lib.Seq.{length-take-le}
-use Rattle.making.proofs.MarkLaws.{marks-small}
 use Rattle.making.proofs.CellLaws.{put-written}
 use borrow.Author.Needs.{needs}
 use Rattle.making.proofs.cells.put.Statement.{statement}
 use Rattle.making.proofs.cells.put.Tie as tie
 
-marks-requires : tie.Need-marks-requires
-marks-requires c κs = search needs
+into-states-requires : tie.Need-into-states-requires
+into-states-requires c κs = search needs
 
 slice-relend-prefix-put-cells : tie.Need-slice-relend-prefix-put-cells
 slice-relend-prefix-put-cells c = search needs
@@ -20,7 +19,7 @@ slice-aggregate-put-cells c = sym (length-take-le _ _ (search needs))
 put-cells-requires : tie.Need-put-cells-requires
 put-cells-requires c κs =
     let p = c .before .before .before .before .pre in
-    (length-take-le _ _ (search needs), λ i. omega (arith, p .1 i), marks-small _ _ (c .before .marks .ensures))
+    (length-take-le _ _ (search needs), λ i. omega (arith, p .1 i))
 
 sub-put-end : tie.Need-sub-put-end
 sub-put-end c = search needs
@@ -44,7 +43,7 @@ pub put-spec : {M : Type 1} → statement M
 put-spec =
     tie.close
     (tie.spec
-    marks-requires
+    into-states-requires
     slice-relend-prefix-put-cells
     slice-aggregate-put-cells
     put-cells-requires

@@ -4,15 +4,15 @@ use mathlib.Core.Path.{_≡_, refl}
 use mathlib.Core.List.{map, _++_}
 use Prim.Native.Nat.{_≤_, _-_}
 use lib.ListN.{length, take, drop, length-set}
-use Rattle.making.proofs.CellLaws.{withMark, entry-fits, entry-in, cell-fits, cells-more, cells-all}
+use Rattle.making.proofs.CellLaws.{mark-fits, withMark, entry-fits, entry-in, cell-fits, cells-more, cells-all}
 use Rattle.making.proofs.cells.put_cells.Statement.{statement}
 use Rattle.making.proofs.cells.put_cells.Tie as tie
 
 abbrev Inv-loop : tie.InvT-loop
-Inv-loop out₀ table marks i₀ out i = (i ≤ length table) × (length out ≡ length out₀) × (out ≡ map (withMark marks) (take i table) ++ drop i out₀)
+Inv-loop out₀ table operations i₀ out i = (i ≤ length table) × (length out ≡ length out₀) × (out ≡ map (withMark operations) (take i table) ++ drop i out₀)
 
 abbrev μ-loop : tie.MeasureT-loop
-μ-loop out₀ table marks i₀ out i = length table - i
+μ-loop out₀ table operations i₀ out i = length table - i
 
 loop-holds : tie.Need-loop-holds Inv-loop μ-loop
 loop-holds c = (search needs, refl, refl)
@@ -20,11 +20,17 @@ loop-holds c = (search needs, refl, refl)
 shared-slice-read-t : tie.Need-shared-slice-read-t Inv-loop μ-loop
 shared-slice-read-t c = search needs
 
-cast-out : tie.Need-cast-out Inv-loop μ-loop
-cast-out c = search (needs, entry-fits)
+cast-mark : tie.Need-cast-mark Inv-loop μ-loop
+cast-mark c = search (needs, entry-fits)
 
-array-read-out : tie.Need-array-read-out Inv-loop μ-loop
-array-read-out c = search (needs, entry-in)
+array-copy-out-mark : tie.Need-array-copy-out-mark Inv-loop μ-loop
+array-copy-out-mark c = search (needs, entry-in)
+
+mark-requires : tie.Need-mark-requires Inv-loop μ-loop
+mark-requires c κs = search needs
+
+mul-out : tie.Need-mul-out Inv-loop μ-loop
+mul-out c = search (needs, mark-fits)
 
 add-out : tie.Need-add-out Inv-loop μ-loop
 add-out c = search (needs, cell-fits)
@@ -46,8 +52,8 @@ same-length c = search needs
 
 returns : tie.Need-returns Inv-loop μ-loop
 returns c =
-    let a = c .before .before .args in
-    cells-all (a .t3) (a .table .now) _ (a .out .now) (c .before .loop .i) (c .before .loop .inv .2) (c .before .before .pre .0) (search needs) (search needs)
+    let start = c .before .before .before .before in
+    cells-all (start .args .t3) (start .args .table .now) _ (start .args .out .now) (c .before .loop .i) (c .before .loop .inv .2) (start .pre .0) (search needs) (search needs)
 
 pub put-cells-spec : {M : Type 1} → statement M
 put-cells-spec =
@@ -57,8 +63,10 @@ put-cells-spec =
     μ-loop
     loop-holds
     shared-slice-read-t
-    cast-out
-    array-read-out
+    cast-mark
+    array-copy-out-mark
+    mark-requires
+    mul-out
     add-out
     slice-write-out
     add-i

@@ -1,8 +1,10 @@
 -- `printed::lines::put_cell` meets its contract: the words one after the other are the line.
 -- Assumes nothing.
 use borrow.Author.Needs.{needs}
-use Rattle.printed.specs.Printing.{cellLine}
-use Rattle.printed.proofs.LineLaws.{three-more}
+use mathlib.Core.List.{[], _∷_}
+use lib.ListN.{length-append}
+use Rattle.printed.specs.Printing.{operationWord, cellLine}
+use Rattle.printed.proofs.LineLaws.{line-of-four}
 use Rattle.printed.proofs.lines.put_cell.Statement.{statement}
 use Rattle.printed.proofs.lines.put_cell.Tie as tie
 
@@ -16,10 +18,11 @@ put-number-requires-2 : tie.Need-put-number-requires-2
 put-number-requires-2 c κs = search needs
 
 put-operation-requires : tie.Need-put-operation-requires
-put-operation-requires c κs = search needs
-
-put-byte-requires : tie.Need-put-byte-requires
-put-byte-requires c κs = search needs
+put-operation-requires c κs =
+    let event = c .before .before .before .before .before in
+    let state = event .before .before .before .before in
+    let start = state .before .before .before .before .before in
+    search (needs, length-append (operationWord (start .args .operation)) (10 ∷ []))
 
 same-length : tie.Need-same-length
 same-length c = search needs
@@ -31,8 +34,7 @@ returns c =
     let a2 = a1 .before .before .before .before in
     let a3 = a2 .before .before .before .before in
     let a4 = a3 .before .before .before .before in
-    let a5 = a4 .before .before .before .before in
-    three-more _ _ _ _ (a5 .put-decimal .ensures) (a4 .put-number .ensures) (a3 .put-number2 .ensures) (a2 .put-operation .ensures) (a1 .put-byte .ensures)
+    line-of-four _ _ _ (a4 .put-decimal .ensures) (a3 .put-number .ensures) (a2 .put-number2 .ensures) (a1 .put-operation .ensures)
 
 pub put-cell-spec : {M : Type 1} → statement M
 put-cell-spec =
@@ -42,6 +44,5 @@ put-cell-spec =
     put-number-requires
     put-number-requires-2
     put-operation-requires
-    put-byte-requires
     same-length
     returns)
