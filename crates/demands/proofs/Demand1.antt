@@ -25,7 +25,7 @@ use Rattle.rulefile.specs.Reading.{verdictOn, partsBy, partsOf, readingOf}
 use Rattle.rulefile.specs.Writing.{verdictOf, WritePromise, OneWritten}
 use Rattle.rulefile.specs.declared.Written.the-variants.{Refused as Unwritten}
 use Rattle.rulefile.proofs.AnswerLaws.{file-gives, shape-gives, rule-gives, parts-zero, read-zero, put-refused, put-kept, put-one}
-use Rattle.sheet.specs.Making.{sheetOf, MakePromise}
+use Rattle.making.specs.Making.{sheetOf, MakePromise}
 use Rattle.sheet.specs.Opening.{openedOf}
 use Rattle.monitor.specs.Fresh.{startOf}
 use Rattle.effects.specs.Effects.{freshRun, StorePromise, DumpPromise, OneAnswer}

@@ -33,13 +33,13 @@ use Rattle.rulefile.proofs.AnswerLaws.{put-done}
 use Rattle.rulefile.proofs.PartsLaws.{sound-file}
 use Rattle.rulefile.proofs.WellLaws.{file-range, file-pairs, file-well}
 use Rattle.rulefile.proofs.RoundTrips.{read-written, written-read, same-rule}
-use Rattle.sheet.specs.Given.{making}
-use Rattle.sheet.specs.Making.{sheetOf, MakePromise}
+use Rattle.making.specs.Given.{making}
+use Rattle.making.specs.Making.{sheetOf, MakePromise}
 use Rattle.sheet.specs.Opening.{openedOf}
 use Rattle.sheet.specs.declared.Opened.the-variants.{Sheet}
-use Rattle.sheet.proofs.MakingLaws.{sheet-opens, cell-next, cell-operation}
-use Rattle.sheet.proofs.FoundLaws.{sound-formed}
-use Rattle.sheet.proofs.GivenLaws.{make-gives, make-done}
+use Rattle.making.proofs.MakingLaws.{sheet-opens, cell-next, cell-operation}
+use Rattle.making.proofs.FoundLaws.{sound-formed}
+use Rattle.making.proofs.GivenLaws.{make-gives, make-done}
 use Rattle.monitor.specs.Event.{operationOf}
 use Rattle.history.proofs.HistoryLaws.{mark-back}
 use Rattle.demands.specs.Made.{Made}

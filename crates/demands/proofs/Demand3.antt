@@ -22,9 +22,9 @@ use Rattle.rulefile.specs.Reading.{verdictOn}
 use Rattle.rulefile.proofs.AnswerLaws.{put-done}
 use Rattle.rulefile.proofs.PartsLaws.{sound-file}
 use Rattle.rulefile.proofs.WellLaws.{file-well}
-use Rattle.sheet.specs.Making.{sheetOf}
-use Rattle.sheet.proofs.MakingLaws.{sheet-opens, sheet-cell}
-use Rattle.sheet.proofs.FoundLaws.{sound-formed}
+use Rattle.making.specs.Making.{sheetOf}
+use Rattle.making.proofs.MakingLaws.{sheet-opens, sheet-cell}
+use Rattle.making.proofs.FoundLaws.{sound-formed}
 use Rattle.effects.specs.Effects.{answerIn}
 use Rattle.monitor.specs.Event.{EventPromise}
 use Rattle.effects.specs.declared.Run.{Run}

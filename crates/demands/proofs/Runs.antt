@@ -15,7 +15,7 @@ use Rattle.rule.specs.Refusals.{firstOf, firstBelow, firstCell, entries, member
 use Rattle.rule.specs.declared.Verdict.the-variants.{Sound}
 use Rattle.rulefile.specs.Layout.{trailerOf, upTo, drawingIn, framed, classed, ranged, placed, flatUpTo, trailerOut, fileOf}
 use Rattle.rulefile.specs.Reading.{verdictOn}
-use Rattle.sheet.specs.Making.{sheetOf}
+use Rattle.making.specs.Making.{sheetOf}
 use Rattle.sheet.specs.Opening.{inRange, opens, openedOf}
 use Rattle.monitor.specs.Event.{cellTurn, lookOf}
 use Rattle.history.specs.History.{History, call}

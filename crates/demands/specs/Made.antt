@@ -5,7 +5,7 @@ use mathlib.Core.Path.{_≡_}
 use mathlib.Core.List.{List}
 use lib.ListN.{take}
 use Rattle.rulefile.specs.declared.Written.the-variants.{Done}
-use Rattle.sheet.specs.Making.{MakePromise}
+use Rattle.making.specs.Making.{MakePromise}
 
 -- the sheet stands at the front of an output after a call of `make` on the file that was done
 pub record Made (file sheet : List ℕ) : Type 0 where

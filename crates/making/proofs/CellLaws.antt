@@ -21,7 +21,7 @@ use Rattle.rule.specs.declared.Operation.the-variants.{Halt, Store, Dump}
 use Rattle.rule.specs.declared.Pair.{Pair}
 use Rattle.rule.specs.declared.Shape.{Shape}
 use Rattle.rule.proofs.ArrayLaws.{filled-at}
-use Rattle.sheet.specs.Making.{cellAt, endOf, sheetOf}
+use Rattle.making.specs.Making.{cellAt, endOf, sheetOf}
 
 -- an operation's number is at most 2, and 64 times it is a byte
 mark-small : (o : Operation) → markOf o ≤ 2

@@ -6,7 +6,7 @@ ghost use lib.ListN.{length, getD};
 ghost use Rattle.rule.specs.Drawing.{body};
 ghost use Rattle.rule.specs.Operations.{markOf};
 ghost use Rattle.rule.specs.declared.Operation.the-variants.{Halt};
-ghost use Rattle.sheet.specs.Making.{endOf, sheetOf};
+ghost use Rattle.making.specs.Making.{endOf, sheetOf};
 use operations::into_states;
 use rule::Operation;
 use rule::Pair;

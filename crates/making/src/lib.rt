@@ -1,5 +1,5 @@
 // The monitor sheet made from a rule file (document 01, "Layouts").
-ghost use Rattle.sheet.specs.Making.{MakePromise};
+ghost use Rattle.making.specs.Making.{MakePromise};
 
 mod cells;
 

@@ -9,7 +9,7 @@ use Rattle.rulefile.specs.Reading.{verdictOn}
 use Rattle.rulefile.specs.declared.Written.{Written}
 use Rattle.rulefile.specs.declared.Written.the-variants.{Done, Refused as Unwritten}
 use Rattle.rulefile.proofs.AnswerLaws.{file-gives, put-refused, put-kept}
-use Rattle.sheet.specs.Making.{sheetOf, MakePromise}
+use Rattle.making.specs.Making.{sheetOf, MakePromise}
 use Rattle.sheet.specs.Opening.{openedOf}
 use Rattle.monitor.specs.Event.{turnOf, EventPromise}
 use Rattle.effects.specs.declared.Answer.{Answer}

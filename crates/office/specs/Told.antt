@@ -13,7 +13,7 @@ use Rattle.rule.specs.declared.Verdict.{Verdict}
 use Rattle.rule.specs.declared.Verdict.the-variants.{Sound, Refused as Unsound}
 use Rattle.rulefile.specs.declared.Written.{Written}
 use Rattle.rulefile.specs.declared.Written.the-variants.{Done, Refused as Unwritten}
-use Rattle.sheet.specs.Making.{MakePromise}
+use Rattle.making.specs.Making.{MakePromise}
 use Rattle.monitor.specs.Fresh.{startOf}
 use Rattle.monitor.specs.Event.{EventPromise}
 use Rattle.effects.specs.declared.Run.{Run}

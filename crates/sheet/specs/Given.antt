@@ -1,12 +1,9 @@
--- Refusal 11 in plain words: "given exactly when" of the paper's table, and what a sheet is that is not refused; and the rows for making a sheet.
+-- Refusal 11 in plain words: "given exactly when" of the paper's table, and what a sheet is that is not refused.
 -- Assumes nothing.
 use Prim.Native.Nat.{ℕ, _+_, _*_, _≤_, _<_}
 use mathlib.Core.Path.{_≡_}
 use mathlib.Core.List.{List}
 use lib.ListN.{length}
-use Rattle.rulefile.specs.Given.{Call, NoRoom, onFile}
-use Rattle.rulefile.specs.Layout.{drawingIn}
-use Rattle.sheet.specs.Making.{sheetOf}
 use Rattle.sheet.specs.Opening.{back, wholeSize}
 
 -- 11: under 6 bytes, mark not 77, N or K out of range, initial state >= N, or distance and length not both N*K + 6
@@ -32,7 +29,3 @@ pub record GoodSheet (l : List ℕ) : Type 0 where
   pub initial-in : back l 4 < back l 6
   pub distance : back l 2 + 256 * back l 1 ≡ wholeSize l
   pub size : length l ≡ wholeSize l
-
--- making a sheet looks at a rule file, and gives 1 to 10 and then 16
-abbrev pub making : List ℕ → ℕ → Call
-making f room = onFile f (NoRoom (length (sheetOf (drawingIn f))) room)

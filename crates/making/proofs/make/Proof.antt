@@ -1,7 +1,7 @@
 -- `make` meets its contract: a refusal of the file, too little room, or the sheet of its drawing. Assumes nothing.
 use mathlib.Core.Path.{sym}
 use lib.Seq.{length-take-le}
-use Rattle.sheet.proofs.FoundLaws.{found-order, found-inside, found-few, found-low, found-fits, found-room, made-refused, made-room, made}
+use Rattle.making.proofs.FoundLaws.{found-order, found-inside, found-few, found-low, found-fits, found-room, made-refused, made-room, made}
 use borrow.Author.Needs.{needs}
 use Rattle.making.proofs.make.Statement.{statement}
 use Rattle.making.proofs.make.Tie as tie

@@ -14,10 +14,10 @@ use Rattle.rule.specs.Drawing.{Drawing, states, events, initial, next}
 use Rattle.rule.specs.Operations.{markOf, operation}
 use Rattle.rule.specs.Reach.{target, Closed}
 use Rattle.rule.specs.declared.Shape.{Shape}
 use Rattle.sheet.specs.Opening.{back, openedOf}
 use Rattle.sheet.specs.declared.Opened.the-variants.{Sheet}
 use Rattle.sheet.proofs.OpeningLaws.{opened-when}
-use Rattle.sheet.specs.Making.{cellAt, endOf, sheetOf}
+use Rattle.making.specs.Making.{cellAt, endOf, sheetOf}
 
 -- an element of a mapped list
 getD-map : (f : ℕ → ℕ) (l : List ℕ) (i : ℕ) → i < length l → getD (map f l) i 0 ≡ f (getD l i 0)

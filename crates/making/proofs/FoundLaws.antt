@@ -22,8 +22,8 @@ use Rattle.rulefile.specs.declared.Contents.{Contents}
 use Rattle.rulefile.specs.declared.Written.the-variants.{Done, Refused as Declined}
 use Rattle.rulefile.proofs.PartsLaws.{sound-file, table-drawn, SoundParts, sound-parts, parts-verdict}
 use Rattle.rulefile.proofs.SoundLaws.{cells-in}
-use Rattle.sheet.specs.Making.{sheetOf, MakePromise}
-use Rattle.sheet.proofs.MakingLaws.{Formed, sheet-length, low}
+use Rattle.making.specs.Making.{sheetOf, MakePromise}
+use Rattle.making.proofs.MakingLaws.{Formed, sheet-length, low}
 
 -- of what is drawn in a sound file a sheet can be made
 pub sound-formed : (f : List ℕ) → verdictOn f ≡ Sound → Formed (drawingIn f)

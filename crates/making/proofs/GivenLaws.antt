@@ -13,8 +13,8 @@ use Rattle.rulefile.specs.declared.Written.{Written}
 use Rattle.rulefile.specs.declared.Written.the-variants.{Done, Refused}
 use Rattle.rulefile.proofs.FaultLaws.{le-fails}
 use Rattle.rulefile.proofs.GivenLaws.{file-answers, put-gives, put-does}
-use Rattle.sheet.specs.Given.{making}
-use Rattle.sheet.specs.Making.{sheetOf, MakePromise}
+use Rattle.making.specs.Given.{making}
+use Rattle.making.specs.Making.{sheetOf, MakePromise}
 
 module _ {f out : List ℕ} {w : Written} {out′ : List ℕ} (kept : MakePromise f out w out′) where
   pub make-gives : (x : Refusal) → (w ≡ Refused x) ↔ (NoneBefore (toldOf x .number) (making f (length out)) × Row (making f (length out)) x)
