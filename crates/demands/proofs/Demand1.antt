@@ -20,11 +20,14 @@ use Rattle.rule.specs.declared.Refusal.the-variants.{Sheet as NoSheet, Memory, 
 use Rattle.rule.specs.declared.Verdict.the-variants.{Refused as Unsound}
 use Rattle.checks.specs.Checked.{checkedOf}
 use Rattle.checks.proofs.HeldLaws.{checked-gives}
-use Rattle.rulefile.specs.Layout.{class, range, drawingIn, fileOf}
+use Rattle.trailer.specs.Conditions.{class, range, distance}
+use Rattle.trailer.specs.declared.Trailer.{Trailer}
+use Rattle.trailer.proofs.NumberLaws.{shape-gives, head-gives}
+use Rattle.rulefile.specs.Layout.{drawingIn, fileOf}
 use Rattle.rulefile.specs.Reading.{verdictOn, partsBy, partsOf, readingOf}
 use Rattle.rulefile.specs.Writing.{verdictOf, WritePromise, OneWritten}
 use Rattle.rulefile.specs.declared.Written.the-variants.{Refused as Unwritten}
-use Rattle.rulefile.proofs.AnswerLaws.{file-gives, shape-gives, rule-gives, parts-zero, read-zero, put-refused, put-kept, put-one}
+use Rattle.rulefile.proofs.AnswerLaws.{file-gives, rule-gives, parts-zero, read-zero, put-refused, put-kept, put-one}
 use Rattle.making.specs.Making.{sheetOf, MakePromise}
 use Rattle.sheet.specs.Opening.{openedOf}
 use Rattle.monitor.specs.Fresh.{startOf}
@@ -42,9 +45,11 @@ use Rattle.office.specs.declared.Answered.{Answered}
 use Rattle.office.proofs.RefusedLaws.{make-kept, event-kept}
 
 pub record Demand1 : Type 0 where
-  -- looking at a rule file: 1 to 10, and 0 in every place; its checks alone: 2 and 3 of a shape, 3 to 10 of a table and pairs
+  -- looking at a rule file: 1 to 10, and 0 in every place; its checks alone: 2 and 3 of a shape, 2 to 4 of a trailer, 3 to 10 of a table and pairs
   pub look : (f : List ℕ) (x : Refusal) → partsOf f .verdict ≡ Unsound x → Numbered 1 10 x × (partsOf f ≡ partsBy (Unsound x) [])
   pub shape : (s : Shape) (spare : ℕ) (x : Refusal) → firstOf (class s ∷ range s spare ∷ []) ≡ Unsound x → Numbered 2 3 x
+  pub head : (t : Trailer) (size : ℕ) (x : Refusal)
+      → firstOf (class (t .shape) ∷ range (t .shape) (t .spare) ∷ distance t size ∷ []) ≡ Unsound x → Numbered 2 4 x
   pub check : (s : Shape) (table : List ℕ) (pairs : List Pair) (x : Refusal) → checkedOf s table pairs ≡ Unsound x → Numbered 3 10 x
   -- reading: 1 to 10, and a rule with 0 in every place
   pub read : (f : List ℕ) (x : Refusal) → readingOf f .verdict ≡ Unsound x → Numbered 1 10 x × (readingOf f .rule ≡ zeroRule)
@@ -81,6 +86,7 @@ demand-1 =
     record {
       look = λ f x p. let z = parts-zero (verdictOn f) f x p in (file-gives f x (z .0), z .1);
       shape = shape-gives;
+      head = head-gives;
       check = checked-gives;
       read = λ f x p. let z = read-zero (verdictOn f) _ x p in (file-gives f x (z .0), z .1);
       write = λ r out. put-one (verdictOf r) (fileOf (drawn r)) out;

@@ -13,7 +13,8 @@ use Rattle.rule.specs.Stopping.{stopsBy}
 use Rattle.rule.specs.Classes.{movesInto, movesOut, forbids, forbidsSome}
 use Rattle.rule.specs.Refusals.{firstOf, firstBelow, firstCell, entries, members, exceeds, excess, moves, stopped, empties}
 use Rattle.rule.specs.declared.Verdict.the-variants.{Sound}
-use Rattle.rulefile.specs.Layout.{trailerOf, upTo, drawingIn, framed, classed, ranged, placed, flatUpTo, trailerOut, fileOf}
+use Rattle.trailer.specs.Conditions.{framed, classed, ranged, placed}
+use Rattle.rulefile.specs.Layout.{trailerOf, upTo, drawingIn, flatUpTo, trailerOut, fileOf}
 use Rattle.rulefile.specs.Reading.{verdictOn}
 use Rattle.making.specs.Making.{sheetOf}
 use Rattle.sheet.specs.Opening.{inRange, opens, openedOf}

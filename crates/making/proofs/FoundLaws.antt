@@ -16,12 +16,12 @@ use Rattle.rule.specs.declared.Refusal.the-variants.{Room}
 use Rattle.rule.specs.declared.Verdict.the-variants.{Sound, Refused}
 use Rattle.rule.proofs.RefusalLaws.{first-sound}
 use Rattle.rule.proofs.GivenLaws.{entries-sound}
+use Rattle.trailer.proofs.SoundLaws.{cells-in}
 use Rattle.rulefile.specs.Layout.{drawingIn}
 use Rattle.rulefile.specs.Reading.{verdictOn, partsOf}
 use Rattle.rulefile.specs.declared.Contents.{Contents}
 use Rattle.rulefile.specs.declared.Written.the-variants.{Done, Refused as Declined}
 use Rattle.rulefile.proofs.PartsLaws.{sound-file, table-drawn, SoundParts, sound-parts, parts-verdict}
-use Rattle.rulefile.proofs.SoundLaws.{cells-in}
 use Rattle.making.specs.Making.{sheetOf, MakePromise}
 use Rattle.making.proofs.MakingLaws.{Formed, sheet-length, low}
 

@@ -5,21 +5,21 @@ use native.Mathlib.Omega.{arith}
 use mathlib.Core.Path.{_≡_, refl, sym, ap, _∙_}
 use mathlib.Core.Bool.{Bool, true, false, not, cond}
 use mathlib.Core.Logic.{_⊎_, inl, inr}
-use mathlib.Core.List.{List, [], _∷_, _++_}
+use mathlib.Core.List.{List, [], _++_}
 use lib.ListN.{length, take, drop}
 use lib.Seq.{take-at, drop-at}
 use lib.Dec.{leb}
 use borrow.Author.Tests.{le-leb}
 use Rattle.rule.specs.Drawing.{drawn, zeroRule}
-use Rattle.rule.specs.Refusals.{Numbered, firstOf}
+use Rattle.rule.specs.Refusals.{Numbered}
 use Rattle.rule.specs.declared.Rule.{Rule}
-use Rattle.rule.specs.declared.Shape.{Shape}
 use Rattle.rule.specs.declared.Refusal.{Refusal}
 use Rattle.rule.specs.declared.Refusal.the-variants.{Frame, Class, Range, Distance, Room}
 use Rattle.rule.specs.declared.Verdict.{Verdict}
 use Rattle.rule.specs.declared.Verdict.the-variants.{Sound, Refused as Unsound}
-use Rattle.rule.proofs.NumberLaws.{Gives, refuse-gives, first-gives, end, and, all-wider, conditions-give}
-use Rattle.rulefile.specs.Layout.{framed, classed, class, ranged, range, placed, trailerIn, drawingIn}
+use Rattle.rule.proofs.NumberLaws.{Gives, refuse-gives, first-gives, and, all-wider, conditions-give}
+use Rattle.trailer.specs.Conditions.{framed, classed, ranged, placed}
+use Rattle.rulefile.specs.Layout.{trailerIn, drawingIn}
 use Rattle.rulefile.specs.Reading.{verdictOn, partsBy, readingBy}
 use Rattle.rulefile.specs.Writing.{verdictOf, settledBy, outputBy, PutPromise, OneWritten}
 use Rattle.rulefile.specs.declared.Written.{Written}
@@ -36,11 +36,6 @@ file-gives f =
     (and (refuse-gives (not (ranged (t .shape) (t .spare))) Range (omega arith))
     (and (refuse-gives (not (placed t (length f))) Distance (omega arith))
     (all-wider (omega arith) (omega arith) (conditions-give (drawingIn f)))))))
-
-pub shape-gives : (s : Shape) (spare : ℕ) → Gives 2 3 (firstOf (class s ∷ range s spare ∷ []))
-shape-gives s spare =
-    first-gives
-    (and (refuse-gives (not (classed s)) Class (omega arith)) (and (refuse-gives (not (ranged s spare)) Range (omega arith)) end))
 
 pub rule-gives : (r : Rule) → Gives 2 10 (verdictOf r)
 unfolding verdictOf

@@ -12,11 +12,13 @@ use Rattle.rule.specs.declared.Rule.{Rule}
 use Rattle.rule.specs.declared.Verdict.{Verdict}
 use Rattle.rule.specs.declared.Verdict.the-variants.{Sound}
 use Rattle.rule.proofs.RefusalLaws.{first-append, else-sound}
-use Rattle.rulefile.specs.Layout.{drawingIn, class, range}
+use Rattle.trailer.specs.Conditions.{class, range}
+use Rattle.trailer.proofs.SoundLaws.{Classed, classed-says, Ranged, ranged-says, cells-in}
+use Rattle.rulefile.specs.Layout.{drawingIn}
 use Rattle.rulefile.specs.Writing.{verdictOf, noted, Held}
 use Rattle.rulefile.proofs.ListLaws.{length-padded, take-padded}
-use Rattle.rulefile.proofs.SoundLaws.{Classed, classed-says, Ranged, ranged-says, measured-sound, cells-in}
 use Rattle.rulefile.proofs.PartsLaws.{SoundFile, shape-drawn, note-drawn}
+use Rattle.rulefile.proofs.WritingLaws.{measured-sound}
 use Rattle.rulefile.proofs.WellLaws.{file-table, file-pairs}
 
 -- both parts of a list of conditions are sound where all of it is

@@ -17,7 +17,8 @@ use Rattle.rule.specs.declared.Shape.{Shape}
 use Rattle.rule.specs.declared.Refusal.the-variants.{Frame, Range, Distance}
 use Rattle.rule.specs.declared.Verdict.the-variants.{Sound, Refused}
 use Rattle.rule.proofs.SetLaws.{below-or}
-use Rattle.rulefile.specs.Layout.{trailerOf, trailerIn, tableBack, pairsBack, upTo, flatUpTo, drawingIn, framed, classed, ranged, placed, trailerOut, fileOf}
+use Rattle.trailer.specs.Conditions.{tableBack, pairsBack, framed, classed, ranged, placed}
+use Rattle.rulefile.specs.Layout.{trailerOf, trailerIn, upTo, flatUpTo, drawingIn, trailerOut, fileOf}
 use Rattle.rulefile.specs.Reading.{verdictOn, readingOf}
 use Rattle.rulefile.specs.Given.{under, over, bad-size, BadRange, bad-N, bad-K, bad-m, bad-initial, byte-5, not-one, BadDistance, to-table, to-pairs, short, note, NoneBefore, reading}
 use Rattle.rulefile.proofs.GivenLaws.{read-gives-1, read-gives-3, read-gives-4, read-sound}

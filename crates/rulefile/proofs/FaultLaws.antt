@@ -19,9 +19,9 @@ use Rattle.rule.specs.declared.Verdict.the-variants.{Sound, Refused}
 use Rattle.rule.proofs.BoolLaws.{clash}
 use Rattle.rule.proofs.SetLaws.{below-or}
 use Rattle.rule.proofs.RefusalLaws.{not-both, refuse-refused}
-use Rattle.rulefile.specs.Layout.{framed, classed, ranged, placed, tableBack, pairsBack}
+use Rattle.trailer.specs.Conditions.{framed, classed, ranged, placed, tableBack, pairsBack}
+use Rattle.trailer.specs.declared.Trailer.{Trailer}
 use Rattle.rulefile.specs.Given.{Outside, under, over, trailerByte, BadFrame, bad-size, byte-10, byte-11, BadClass, BadRange, bad-N, bad-K, bad-m, bad-initial, byte-5, not-one, BadDistance, to-table, to-pairs, short, note}
-use Rattle.rulefile.specs.declared.Trailer.{Trailer}
 
 -- what a test says where it fails
 

@@ -19,11 +19,13 @@ use Rattle.rule.specs.declared.Pair.{Pair}
 use Rattle.rule.specs.declared.Shape.{Shape}
 use Rattle.rule.specs.declared.Verdict.the-variants.{Sound}
 use Rattle.rule.proofs.ClassLaws.{well-drawn}
-use Rattle.rulefile.specs.Layout.{trailerOf, trailerIn, pairsBack, tableBack, upTo, pairIn, pairBytes, drawingIn, framed, placed, pairOut, pairsOut, trailerOut, fileOf}
+use Rattle.trailer.specs.Conditions.{pairsBack, tableBack, framed, placed}
+use Rattle.trailer.proofs.SoundLaws.{classed-says, ranged-says, cells-in}
+use Rattle.rulefile.specs.Layout.{trailerOf, trailerIn, upTo, pairIn, pairBytes, drawingIn, pairOut, pairsOut, trailerOut, fileOf}
 use Rattle.rulefile.specs.Reading.{verdictOn, readingOf}
-use Rattle.rulefile.proofs.PartLaws.{drop-end, part-on, part-on-back, getD-upTo, upTo-take, flat-ext, flat-take, flat-at}
+use Rattle.rulefile.proofs.ListLaws.{getD-upTo, flat-ext}
+use Rattle.rulefile.proofs.PartLaws.{drop-end, part-on, part-on-back, upTo-take, flat-take, flat-at}
 use Rattle.rulefile.proofs.LayoutLaws.{length-pairOut, length-pairsOut, length-trailerOut}
-use Rattle.rulefile.proofs.SoundLaws.{classed-says, ranged-says, cells-in}
 use Rattle.rulefile.proofs.PartsLaws.{SoundFile}
 use Rattle.rulefile.proofs.WellLaws.{in-range}
 use Rattle.rulefile.proofs.DrawnLaws.{SoundDrawing}

@@ -1,6 +1,6 @@
 -- "Given exactly when", for reading and for writing: a refusal is given, with its places, exactly when its row of the table holds and no
 -- earlier row does. Assumes nothing.
-use Prim.Native.Nat.{ℕ, suc, _≤_, _<_}
+use Prim.Native.Nat.{ℕ, _≤_, _<_}
 use native.Mathlib.Omega.{arith}
 use mathlib.Core.Path.{_≡_, refl, _∙_, subst}
 use mathlib.Core.Bool.{Bool, true, false, not, cond}
@@ -22,7 +22,8 @@ use Rattle.rule.proofs.RefusalLaws.{not-both}
 use Rattle.rule.proofs.BoolLaws.{clash}
 use Rattle.rule.proofs.NumberLaws.{entries-give, members-give, excess-gives, moves-give, stopped-gives, empties-give}
 use Rattle.rule.proofs.GivenLaws.{entries-sound, entries-refused, members-refused, excess-refused, moves-refused, stopped-refused, empties-refused}
-use Rattle.rulefile.specs.Layout.{drawingIn, trailerIn, class, range, fileOf}
+use Rattle.trailer.specs.Conditions.{class, range}
+use Rattle.rulefile.specs.Layout.{drawingIn, trailerIn, fileOf}
 use Rattle.rulefile.specs.Reading.{verdictOn, readingBy, readingOf}
 use Rattle.rulefile.specs.Writing.{verdictOf, settledBy, PutPromise, WritePromise}
 use Rattle.rulefile.specs.Given.{over, BadFrame, BadClass, BadRange, bad-N, bad-m, bad-initial, BadDistance, LongNote, NoRoom, Call, Row, NoneBefore, NoRow, onFile, reading, writing}

@@ -2,7 +2,6 @@
 pub mod ListLaws
 pub mod LayoutLaws
 -- what a file, or a rule by value, has that passed the checks
-pub mod SoundLaws
 pub mod ReadingLaws
 pub mod PartsLaws
 pub mod WellLaws

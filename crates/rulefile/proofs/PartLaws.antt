@@ -5,11 +5,11 @@ use native.Mathlib.Omega.{arith}
 use native.Mathlib.Nat.{eq-or-lt-of-le, not-suc-le-zero, le-of-suc-le-suc, mul-zero, mul-suc, mul-le-mul-left}
 use mathlib.Core.Path.{_≡_, refl, sym, ap, _∙_}
 use mathlib.Core.Logic.{⊎-elim}
-use mathlib.Core.List.{List, [], _∷_, _++_, append-assoc, append-nil}
-use lib.ListN.{length, getD, take, drop, length-append, take-append-drop, List·getD-append}
-use lib.Seq.{take-suc, take-add, drop-at, drop-drop, drop-append-le, getD-at}
+use mathlib.Core.List.{List, [], _++_, append-assoc, append-nil}
+use lib.ListN.{length, getD, take, drop, length-append, take-append-drop}
+use lib.Seq.{take-suc, take-add, drop-at, drop-drop, drop-append-le}
 use Rattle.rulefile.specs.Layout.{upTo, flatUpTo}
-use Rattle.rulefile.proofs.ListLaws.{length-upTo, length-flatUpTo}
+use Rattle.rulefile.proofs.ListLaws.{length-flatUpTo}
 
 module _ {A : Type 0} where
   -- the last elements, so many of them
@@ -28,26 +28,11 @@ module _ {A : Type 0} where
       let e : length l - near ≡ a + n = omega arith in
       ap (λ (i : ℕ). take n (drop a l) ++ drop i l) e ∙ part-on n a l
 
-  -- element i of f 0, f 1, ..
-  pub getD-upTo : (f : ℕ → A) (n i : ℕ) (d : A) → i < n → getD (upTo f n) i d ≡ f i
-  unfolding upTo
-  getD-upTo f zero i d h = absurd (not-suc-le-zero h)
-  getD-upTo f (suc n) i d h =
-      ⊎-elim (λ e. rw e (getD-at (upTo f n) (f n) [] d n (length-upTo f n)))
-      (λ l. List·getD-append (upTo f n) (f n ∷ []) d i (rw length-upTo l) ∙ getD-upTo f n i d l)
-      (eq-or-lt-of-le (le-of-suc-le-suc h))
-
-  -- a list that has those elements at its front
+  -- a list that has f 0, f 1, .. at its front
   pub upTo-take : (f : ℕ → A) (l : List A) (d : A) (n : ℕ) → n ≤ length l → ((i : ℕ) → i < n → f i ≡ getD l i d) → upTo f n ≡ take n l
   unfolding upTo
   upTo-take f l d zero h e = refl
   upTo-take f l d (suc n) h e = rw (upTo-take f l d n (omega arith) (λ i k. e i (omega arith)), e n (omega arith)) (sym (take-suc l n d h))
-
-  -- pieces that are equal one by one
-  pub flat-ext : (f g : ℕ → List A) (n : ℕ) → ((i : ℕ) → i < n → f i ≡ g i) → flatUpTo f n ≡ flatUpTo g n
-  unfolding flatUpTo
-  flat-ext f g zero h = refl
-  flat-ext f g (suc n) h = rw (flat-ext f g n (λ i l. h i (omega arith)), h n (omega arith))
 
   -- a list cut in pieces of k
   pub flat-take : (k : ℕ) (l : List A) (n : ℕ) → flatUpTo (λ i. take k (drop (k * i) l)) n ≡ take (k * n) l

@@ -14,15 +14,15 @@ use Rattle.octets.proofs.NumberLaws.{bytes-take, bytes-drop, valueOf-lt}
 use Rattle.rule.specs.Drawing.{noPair, padded}
 use Rattle.rule.specs.Refusals.{firstOf, conditions}
 use Rattle.rule.proofs.RefusalLaws.{first-sound}
-use Rattle.rule.specs.declared.Pair.{Pair}
 use Rattle.rule.specs.declared.Refusal.the-variants.{Frame, Class, Range, Distance}
 use Rattle.rule.specs.declared.Verdict.{Verdict}
 use Rattle.rule.specs.declared.Verdict.the-variants.{Sound, Refused}
-use Rattle.rulefile.specs.Layout.{trailerIn, tableBack, pairsBack, pairIn, pairBytes, upTo, drawingIn}
+use Rattle.trailer.specs.Conditions.{tableBack, pairsBack}
+use Rattle.trailer.proofs.SoundLaws.{Framed, framed-says, Classed, classed-says, Ranged, ranged-says, Placed, placed-says, passed}
+use Rattle.rulefile.specs.Layout.{trailerIn, pairIn, pairBytes, upTo, drawingIn}
 use Rattle.rulefile.specs.Reading.{verdictOn, partsBy, partsOf}
 use Rattle.rulefile.specs.declared.Contents.{Contents}
 use Rattle.rulefile.proofs.ListLaws.{length-upTo, getD-upTo, take-padded}
-use Rattle.rulefile.proofs.SoundLaws.{Framed, framed-says, Classed, classed-says, Ranged, ranged-says, Placed, placed-says, passed}
 
 -- what the ten conditions leave
 pub record SoundFile (f : List ℕ) : Type 0 where

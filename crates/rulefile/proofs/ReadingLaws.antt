@@ -17,15 +17,16 @@ use Rattle.rule.specs.declared.Refusal.{Refusal}
 use Rattle.rule.specs.declared.Refusal.the-variants.{Frame}
 use Rattle.rule.specs.declared.Verdict.{Verdict}
 use Rattle.rule.specs.declared.Verdict.the-variants.{Sound, Refused}
-use Rattle.rulefile.specs.Layout.{trailerOf, trailerIn, framed, frame, class, range, distance, tableBack, pairIn, pairBytes, upTo, drawingIn}
+use Rattle.trailer.specs.Conditions.{framed, frame, class, range, distance, tableBack}
+use Rattle.trailer.specs.declared.Trailer.{Trailer}
+use Rattle.trailer.proofs.SoundLaws.{Headed, Placed, headed-sound, cells-in}
+use Rattle.rulefile.specs.Layout.{trailerOf, trailerIn, pairIn, pairBytes, upTo, drawingIn}
 use Rattle.rulefile.specs.Reading.{verdictOn, partsBy, partsOf, readingBy, readingOf}
-use Rattle.rulefile.specs.declared.Trailer.{Trailer}
 use Rattle.rulefile.specs.declared.Contents.{Contents}
 use Rattle.rulefile.specs.declared.Reading.{Reading}
 use Rattle.checks.proofs.CheckLaws.{conditions-note}
 use Rattle.rulefile.proofs.ListLaws.{length-upTo, take-padded, copied-padded}
 use Rattle.rulefile.proofs.PartsLaws.{sound-parts, parts-verdict}
-use Rattle.rulefile.proofs.SoundLaws.{Headed, Placed, headed-sound, cells-in}
 
 -- the length of a part that is given by two distances from the end
 pub gap : (len far near : ℕ) → near ≤ far → far ≤ len → len - near - (len - far) ≡ far - near

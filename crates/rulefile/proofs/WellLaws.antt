@@ -7,8 +7,8 @@ use lib.ListN.{length}
 use Rattle.rule.specs.Drawing.{Drawing, states, events, count}
 use Rattle.rule.specs.WellDrawn.{InRange, WellDrawn}
 use Rattle.rule.proofs.ClassLaws.{well-drawn}
+use Rattle.trailer.proofs.SoundLaws.{Classed, Ranged}
 use Rattle.rulefile.specs.Layout.{trailerIn, drawingIn}
-use Rattle.rulefile.proofs.SoundLaws.{Classed, Ranged}
 use Rattle.rulefile.proofs.PartsLaws.{SoundFile, table-drawn, pairs-drawn}
 
 -- a drawing whose shape passes the checks 2 and 3 is in range

@@ -1,10 +1,11 @@
 -- Laws of writing: what putting bytes into an output comes to, and what writing a rule does, return by return.
 -- Assumes nothing.
-use mathlib.Core.Path.{_≡_, sym, ap, _∙_}
+use mathlib.Core.Path.{_≡_, refl, sym, ap, _∙_}
 use mathlib.Core.List.{List, [], _∷_, _++_}
 use Prim.Native.Nat.{ℕ, _+_, _-_, _*_, _≤_, _<_}
 use native.Mathlib.Omega.{arith}
 use borrow.Author.Tests.{le-leb, lt-leb}
+use lib.Dec.{leb}
 use lib.ListN.{length, take, drop, length-append}
 use lib.Seq.{length-take-le}
 use borrow.Rule.Slice.PartMut.{putMid}
@@ -13,20 +14,24 @@ use Rattle.octets.proofs.CopyLaws.{copied-whole}
 use Rattle.octets.proofs.ListLaws.{part-more, part-length}
 use Rattle.rule.specs.Drawing.{Drawing, drawn}
 use Rattle.rule.specs.Refusals.{firstOf, conditions}
-use Rattle.rule.proofs.RefusalLaws.{append-hit, append-more}
+use Rattle.rule.proofs.BoolLaws.{le-says}
+use Rattle.rule.proofs.RefusalLaws.{append-hit, append-more, first-sound}
 use Rattle.rule.specs.declared.Rule.{Rule}
+use Rattle.rule.specs.declared.Shape.{Shape}
 use Rattle.rule.specs.declared.Refusal.{Refusal}
-use Rattle.rule.specs.declared.Refusal.the-variants.{Room}
+use Rattle.rule.specs.declared.Refusal.the-variants.{Class, Range, Distance, Room}
 use Rattle.rule.specs.declared.Verdict.{Verdict}
 use Rattle.rule.specs.declared.Verdict.the-variants.{Sound, Refused as Unsound}
-use Rattle.rulefile.specs.Layout.{class, range, pairsOut, trailerOut, fileOf}
+use Rattle.trailer.specs.Conditions.{class, range}
+use Rattle.trailer.proofs.HeadLaws.{third-refused, third-sound}
+use Rattle.trailer.proofs.SoundLaws.{Classed, classed-says, Ranged, ranged-says, passed, cells-in}
+use Rattle.rulefile.specs.Layout.{pairsOut, trailerOut, fileOf}
 use Rattle.rulefile.specs.Writing.{noted, verdictOf, PutPromise}
 use Rattle.rulefile.specs.declared.Written.the-variants.{Done, Refused}
 use Rattle.checks.specs.Checked.{checkedOf}
 use Rattle.checks.proofs.CheckLaws.{conditions-note}
 use Rattle.checks.proofs.HeldLaws.{in-range}
 use Rattle.rulefile.proofs.LayoutLaws.{length-pairsOut, length-trailerOut, pairsOut-take}
-use Rattle.rulefile.proofs.SoundLaws.{Measured, measured-sound, cells-in}
 
 -- putting bytes into an output: refused as the verdict is, refused for room, or done
 
@@ -42,6 +47,33 @@ module _ {v : Verdict} {bytes out : List ℕ} where
     put-done q h o =
         let fits = le-leb (length bytes) (length out) (rw q at h) in
         record { answer = rw (e, fits, q); output = rw (e, fits, ← q) o }
+
+-- 4 of a rule by value, after two conditions of which the first refusal is v
+
+module _ (a b : Verdict) {v : Verdict} (is : v ≡ firstOf (a ∷ b ∷ [])) (e : v ≡ Sound) {n : ℕ} where
+  pub note-too-long : 1024 < n → Unsound Distance ≡ firstOf (a ∷ b ∷ noted n ∷ [])
+  note-too-long h = third-refused a b is e Distance {ok = leb n 1024} refl (rw (lt-leb n 1024 h))
+
+  pub note-fits : n ≤ 1024 → Sound ≡ firstOf (a ∷ b ∷ noted n ∷ [])
+  note-fits h = third-sound a b is e Distance {ok = leb n 1024} refl (rw (le-leb n 1024 h))
+
+-- 2 to 4 of a rule by value
+
+pub record Measured (s : Shape) (length : ℕ) : Type 0 where
+  pub classed : Classed s
+  pub ranged : Ranged s 0
+  pub note-in : length ≤ 1024
+
+pub measured-sound : (s : Shape) (length : ℕ) → firstOf (class s ∷ range s 0 ∷ noted length ∷ []) ≡ Sound → Measured s length
+measured-sound s length e =
+    let a = first-sound _ _ .0 e in
+    let b = first-sound _ _ .0 (a .1) in
+    let c = first-sound _ _ .0 (b .1) in
+    record {
+      classed = passed Class (classed-says s) .0 (a .0);
+      ranged = passed Range (ranged-says s 0) .0 (b .0);
+      note-in = passed Distance (le-says length 1024) .0 (c .0);
+    }
 
 -- the note stands in front, and then the rest was lent and filled
 filled : (note rest out : List ℕ) (a n : ℕ) → length note ≡ a → a + length rest ≡ n → n ≤ length out → {l last : List ℕ} → l ≡ copied note out → last ≡ rest

@@ -12,8 +12,9 @@ use Rattle.rule.specs.declared.Rule.{Rule}
 use Rattle.rule.specs.declared.Shape.{Shape}
 use Rattle.rule.specs.declared.Refusal.{Refusal}
 use Rattle.rule.specs.declared.Refusal.the-variants.{Frame, Class, Range, Distance, Entry, Member, Excess, Move, Stopping, Empty, Sheet, Run, Code, Cell, Memory, Room}
-use Rattle.rulefile.specs.Layout.{trailerIn, drawingIn, tableBack, pairsBack, fileOf}
-use Rattle.rulefile.specs.declared.Trailer.{Trailer}
+use Rattle.trailer.specs.Conditions.{tableBack, pairsBack}
+use Rattle.trailer.specs.declared.Trailer.{Trailer}
+use Rattle.rulefile.specs.Layout.{trailerIn, drawingIn, fileOf}
 
 -- x is not one of lo to hi
 pub data Outside (lo hi x : ℕ) : Type 0 where

@@ -1,18 +1,14 @@
 -- The layout of a rule file: the note, the table, the pairs, and the trailer of twelve bytes, which points back.
 -- Assumes nothing.
 use Prim.Native.Nat.{ℕ, zero, suc, _+_, _-_, _*_}
-use mathlib.Core.Bool.{Bool, not, _&&_, _||_}
 use mathlib.Core.List.{List, [], _∷_, _++_}
 use lib.ListN.{length, getD, take, drop}
-use lib.Dec.{leb, ltb, eqb}
 use Rattle.octets.specs.Numbers.{valueOf, digits}
 use Rattle.rule.specs.Drawing.{Drawing, count, stateNo, noPair}
-use Rattle.rule.specs.Refusals.{refuseIf}
 use Rattle.rule.specs.declared.Pair.{Pair}
 use Rattle.rule.specs.declared.Shape.{Shape}
-use Rattle.rule.specs.declared.Refusal.the-variants.{Frame, Class, Range, Distance}
-use Rattle.rule.specs.declared.Verdict.{Verdict}
-use Rattle.rulefile.specs.declared.Trailer.{Trailer}
+use Rattle.trailer.specs.Conditions.{pairsBack, tableBack}
+use Rattle.trailer.specs.declared.Trailer.{Trailer}
 
 -- what the twelve bytes of a trailer say
 unfoldable pub trailerOf : List ℕ → Trailer
@@ -28,13 +24,6 @@ trailerOf t =
 -- the trailer of a file
 abbrev pub trailerIn : List ℕ → Trailer
 trailerIn f = trailerOf (drop (length f - 12) f)
-
--- the distances from the file's end back to the pairs and back to the table
-abbrev pub pairsBack : Shape → ℕ
-pairsBack s = 12 + 16 * s .pairs
-
-abbrev pub tableBack : Shape → ℕ
-tableBack s = 12 + 16 * s .pairs + s .states * s .events
 
 -- f 0, f 1, .., so many of them
 unfoldable pub upTo : {A : Type 0} → (ℕ → A) → ℕ → List A
@@ -59,39 +48,6 @@ drawingIn f =
       table = take (s .states * s .events) (drop (length f - tableBack s) f);
       pairs = upTo (pairIn (pairBytes s f)) (s .pairs);
     }
-
--- 1: under 12 or over 3,212 bytes, or bytes 10-11 of the trailer wrong
-unfoldable pub framed : List ℕ → Bool
-framed f =
-    leb 12 (length f) && (leb (length f) 3212 && (eqb (getD f (length f - 2) 0) 72 && eqb (getD f (length f - 1) 0) 82))
-
-abbrev pub frame : List ℕ → Verdict
-frame f = refuseIf (not (framed f)) Frame
-
--- 2: class not 1 to 4
-unfoldable pub classed : Shape → Bool
-classed s = leb 1 (s .class) && leb (s .class) 4
-
-abbrev pub class : Shape → Verdict
-class s = refuseIf (not (classed s)) Class
-
--- 3: N, K, m out of range, initial state >= N, byte 5 not 0, or m not 1 in class 1, 2, 4
-unfoldable pub ranged : Shape → ℕ → Bool
-ranged s spare =
-    leb 1 (s .states) && (leb (s .states) 64 && (leb 1 (s .events) && (leb (s .events) 32 && (leb 1 (s .pairs) && (leb (s .pairs) 8
-    && (ltb (s .initial .0) (s .states) && (eqb spare 0 && (eqb (s .class) 3 || eqb (s .pairs) 1))))))))
-
-abbrev pub range : Shape → ℕ → Verdict
-range s spare = refuseIf (not (ranged s spare)) Range
-
--- 4: a back distance is wrong, the file is shorter than the table's distance, or the note is over 1,024
-unfoldable pub placed : Trailer → ℕ → Bool
-placed t size =
-    eqb (t .pairs) (pairsBack (t .shape)) && (eqb (t .table) (tableBack (t .shape))
-    && (leb (tableBack (t .shape)) size && leb (size - tableBack (t .shape)) 1024))
-
-abbrev pub distance : Trailer → ℕ → Verdict
-distance t size = refuseIf (not (placed t size)) Distance
 
 -- the lists f 0, f 1, .., so many of them, one after the other
 unfoldable pub flatUpTo : {A : Type 0} → (ℕ → List A) → ℕ → List A

@@ -8,7 +8,8 @@ use Rattle.rule.specs.Refusals.{firstOf, conditions}
 use Rattle.rule.specs.declared.Rule.{Rule}
 use Rattle.rule.specs.declared.Verdict.{Verdict}
 use Rattle.rule.specs.declared.Verdict.the-variants.{Sound, Refused}
-use Rattle.rulefile.specs.Layout.{trailerIn, drawingIn, tableBack, pairsBack, frame, class, range, distance}
+use Rattle.trailer.specs.Conditions.{tableBack, pairsBack, frame, class, range, distance}
+use Rattle.rulefile.specs.Layout.{trailerIn, drawingIn}
 use Rattle.rulefile.specs.declared.Contents.{Contents}
 use Rattle.rulefile.specs.declared.Reading.{Reading}
 

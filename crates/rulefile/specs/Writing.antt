@@ -12,7 +12,8 @@ use Rattle.rule.specs.declared.Rule.{Rule}
 use Rattle.rule.specs.declared.Refusal.the-variants.{Distance, Room}
 use Rattle.rule.specs.declared.Verdict.{Verdict}
 use Rattle.rule.specs.declared.Verdict.the-variants.{Sound, Refused as Unsound}
-use Rattle.rulefile.specs.Layout.{class, range, fileOf}
+use Rattle.trailer.specs.Conditions.{class, range}
+use Rattle.rulefile.specs.Layout.{fileOf}
 use Rattle.rulefile.specs.declared.Written.{Written}
 use Rattle.rulefile.specs.declared.Written.the-variants.{Done, Refused}
 

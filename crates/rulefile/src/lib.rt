@@ -1,24 +1,15 @@
-// The rule file: looked at and read (document 01, "Layouts" and "Refusal numbers"). specs/ has all of its layout, and what
-// reading and writing come to; the crate writing has the writer.
+// The rule file: looked at (document 01, "Layouts" and "Refusal numbers"). specs/ has its layout, and what reading and writing come
+// to; the crate trailer has the checks 1 to 4, the crates reading and writing the reader and the writer.
 ghost use mathlib.Core.Path.{_≡_};
-ghost use Rattle.rulefile.specs.Reading.{partsOf, readingOf};
+ghost use Rattle.rulefile.specs.Reading.{partsOf};
 
-pub mod layout;
+mod layout;
 
 use rule::Pair;
 use rule::Refusal;
 use rule::Rule;
 use rule::Shape;
-use rule::StateNo;
 use rule::Verdict;
-
-// What the last twelve bytes of a file say.
-pub struct Trailer {
-    pub shape: Shape,
-    pub spare: u8,
-    pub table: usize,
-    pub pairs: usize,
-}
 
 // A file that was looked at: where it is sound, its shape, its pairs, and where its table stands; else 0 in every place.
 pub struct Contents {
@@ -45,12 +36,12 @@ pub enum Written {
 pub fn parts(file: &[u8]) -> Contents
     ensures { λ r. ⌜ r ≡ partsOf (now (file .entry)) ⌝ }
 {
-    if !layout::framed(file) {
+    if !trailer::framed(file) {
         return layout::refused(Refusal::Frame);
     }
     let len = file.len();
     let trailer = layout::trailer_of(&file[len - 12..]);
-    let verdict = layout::headed(trailer, len);
+    let verdict = trailer::headed(trailer, len);
     if let Verdict::Refused(refusal) = verdict {
         return layout::refused(refusal);
     }
@@ -68,34 +59,5 @@ pub fn parts(file: &[u8]) -> Contents
         start,
         end,
         pairs,
-    }
-}
-
-// Reads a rule: the refusals 1 to 10.
-pub fn read(file: &[u8]) -> Reading
-    ensures { λ r. ⌜ r ≡ readingOf (now (file .entry)) ⌝ }
-{
-    let parts = parts(file);
-    let verdict = parts.verdict;
-    if let Verdict::Refused(refusal) = verdict {
-        return layout::unread(refusal);
-    }
-    let length = parts.start;
-    let end = parts.end;
-    let mut note = [0u8; 1024];
-    octets::copy(&file[..length], &mut note);
-    let mut table = [0u8; 2048];
-    octets::copy(&file[length..end], &mut table);
-    let shape = parts.shape;
-    let pairs = parts.pairs;
-    Reading {
-        verdict,
-        rule: Rule {
-            shape,
-            length,
-            note,
-            table,
-            pairs,
-        },
     }
 }

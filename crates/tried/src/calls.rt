@@ -15,7 +15,7 @@ use rulefile::Written;
 
 // Reads a rule file, and where it is sound writes its rule again. A file that is the same is not printed.
 fn read(file: &[u8]) {
-    let reading = rulefile::read(file);
+    let reading = reading::read(file);
     let verdict = reading.verdict;
     if let Verdict::Refused(refusal) = verdict {
         said::refused(refusal);

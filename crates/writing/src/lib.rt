@@ -4,7 +4,8 @@ ghost use mathlib.Core.List.{[], _∷_, _++_};
 ghost use Prim.Native.Nat.{_+_, _*_, _≤_};
 ghost use lib.ListN.{length};
 ghost use Rattle.rule.specs.Refusals.{firstOf};
-ghost use Rattle.rulefile.specs.Layout.{class, range, pairOut, pairsOut, trailerOut};
+ghost use Rattle.trailer.specs.Conditions.{class, range};
+ghost use Rattle.rulefile.specs.Layout.{pairOut, pairsOut, trailerOut};
 ghost use Rattle.rulefile.specs.Writing.{noted, WritePromise};
 use rule::Pair;
 use rule::Refusal;
@@ -12,7 +13,7 @@ use rule::Rule;
 use rule::Shape;
 use rule::Verdict;
 use rulefile::Written;
-use rulefile::layout::shaped;
+use trailer::shaped;
 
 // The refusals 2 to 4 of a rule by value.
 fn measured(shape: Shape, length: usize) -> Verdict

@@ -12,16 +12,16 @@ use Rattle.rule.specs.Drawing.{body}
 use Rattle.rule.specs.Refusals.{firstOf, conditions}
 use Rattle.rule.specs.declared.Pair.{Pair}
 use Rattle.checks.proofs.HeldLaws.{in-range}
+use Rattle.trailer.proofs.SoundLaws.{Framed, framed-says, Headed}
 use Rattle.rulefile.specs.Layout.{trailerIn}
-use Rattle.rulefile.proofs.SoundLaws.{Framed, framed-says, Headed}
 use Rattle.rulefile.proofs.ReadingLaws.{cut, cut-order, tableBy, pairsBy, pairs-long, parts-refused, frame-wrong, trailer-is, head-wrong, headed, body-told, parts-sound}
 use Rattle.rulefile.proofs.parts.Statement.{statement}
 use Rattle.rulefile.proofs.parts.Tie as tie
 use Rattle.rulefile.proofs.parts.Reads as reads
 use Rattle.rulefile.proofs.parts.Lts as lts
 use Rattle.checks.proofs.checked.Reads as checked-reads
-use Rattle.rulefile.proofs.layout.framed.Reads as framed-reads
-use Rattle.rulefile.proofs.layout.headed.Reads as headed-reads
+use Rattle.trailer.proofs.framed.Reads as framed-reads
+use Rattle.trailer.proofs.headed.Reads as headed-reads
 use Rattle.rulefile.proofs.layout.pairs_of.Reads as pairs-of-reads
 use Rattle.rulefile.proofs.layout.refused.Reads as refused-reads
 use Rattle.rulefile.proofs.layout.trailer_of.Reads as trailer-of-reads

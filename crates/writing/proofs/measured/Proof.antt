@@ -1,12 +1,13 @@
 -- `writing::measured` meets its contract: one law for each return.
 -- Assumes nothing.
 use borrow.Author.Needs.{needs}
-use Rattle.rulefile.proofs.LayoutLaws.{third-told, note-long, note-short}
+use Rattle.trailer.proofs.HeadLaws.{third-told}
+use Rattle.rulefile.proofs.WritingLaws.{note-too-long, note-fits}
 use Rattle.writing.proofs.measured.Statement.{statement}
 use Rattle.writing.proofs.measured.Tie as tie
 use Rattle.writing.proofs.measured.Reads as reads
 use Rattle.writing.proofs.measured.Lts as lts
-use Rattle.rulefile.proofs.layout.shaped.Reads as shaped-reads
+use Rattle.trailer.proofs.shaped.Reads as shaped-reads
 
 shaped-requires : tie.Need-shaped-requires
 shaped-requires c κs = search needs
@@ -21,10 +22,10 @@ returns : tie.Need-returns
 returns c = search (needs, third-told)
 
 returns-2 : tie.Need-returns-2
-returns-2 c = search (needs, note-long)
+returns-2 c = search (needs, note-too-long)
 
 returns-3 : tie.Need-returns-3
-returns-3 c = search (needs, note-short)
+returns-3 c = search (needs, note-fits)
 
 pub measured-spec : {M : Type 1} → statement M
 measured-spec =

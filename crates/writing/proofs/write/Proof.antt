@@ -4,14 +4,14 @@ use borrow.Author.Needs.{needs}
 use Prim.Native.Nat.{_-_, _*_, _≤_}
 use mathlib.Core.Path.{_≡_, sym, _∙_}
 use native.Mathlib.Omega.{arith}
-use lib.ListN.{length, take}
+use lib.ListN.{length}
 use lib.Seq.{length-take-le}
 use Rattle.rule.specs.Drawing.{drawn}
 use Rattle.rule.specs.declared.Verdict.the-variants.{Sound}
+use Rattle.trailer.proofs.SoundLaws.{cells-in}
 use Rattle.rulefile.specs.Layout.{fileOf}
 use Rattle.rulefile.specs.Writing.{verdictOf}
-use Rattle.rulefile.proofs.SoundLaws.{Measured, cells-in}
-use Rattle.rulefile.proofs.WritingLaws.{put-refused, put-no-room, put-done, rule-unmeasured, measured, rule-told, sizeOf, length-written, rest-lent, all-written}
+use Rattle.rulefile.proofs.WritingLaws.{put-refused, put-no-room, put-done, rule-unmeasured, Measured, measured, rule-told, sizeOf, length-written, rest-lent, all-written}
 use Rattle.writing.proofs.write.Statement.{statement}
 use Rattle.writing.proofs.write.Tie as tie
 use Rattle.writing.proofs.write.Reads as reads

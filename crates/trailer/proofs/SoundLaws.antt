@@ -1,8 +1,8 @@
--- What a file or a rule has that passed a check: each condition 1 to 4 in plain words.
+-- What a file, a shape or a trailer has that passed a check: each condition 1 to 4 in plain words.
 -- Assumes nothing.
-use mathlib.Core.Path.{_≡_, ap}
+use mathlib.Core.Path.{_≡_}
 use mathlib.Core.List.{List, [], _∷_}
-use mathlib.Core.Bool.{Bool, false, not}
+use mathlib.Core.Bool.{Bool, not}
 use mathlib.Core.Logic.{_⊎_, _↔_}
 use Prim.Native.Nat.{ℕ, _-_, _*_, _≤_, _<_}
 use native.Mathlib.Nat.{mul-le-mul}
@@ -15,9 +15,8 @@ use Rattle.rule.specs.declared.Shape.{Shape}
 use Rattle.rule.specs.declared.Refusal.{Refusal}
 use Rattle.rule.specs.declared.Refusal.the-variants.{Class, Range, Distance}
 use Rattle.rule.specs.declared.Verdict.the-variants.{Sound}
-use Rattle.rulefile.specs.Layout.{framed, classed, class, ranged, range, placed, distance, pairsBack, tableBack}
-use Rattle.rulefile.specs.Writing.{noted}
-use Rattle.rulefile.specs.declared.Trailer.{Trailer}
+use Rattle.trailer.specs.Conditions.{framed, classed, class, ranged, range, placed, distance, pairsBack, tableBack}
+use Rattle.trailer.specs.declared.Trailer.{Trailer}
 
 -- a condition that is refused where its test fails
 pub passed : (r : Refusal) {b : Bool} {A : Type 0} → Says b A → (refuseIf (not b) r ≡ Sound) ↔ A
@@ -111,23 +110,6 @@ headed-sound t size e =
       classed = passed Class (classed-says (t .shape)) .0 (a .0);
       ranged = passed Range (ranged-says (t .shape) (t .spare)) .0 (b .0);
       placed = passed Distance (placed-says t size) .0 (c .0);
-    }
-
--- 2 to 4 of a rule by value
-pub record Measured (s : Shape) (length : ℕ) : Type 0 where
-  pub classed : Classed s
-  pub ranged : Ranged s 0
-  pub note-in : length ≤ 1024
-
-pub measured-sound : (s : Shape) (length : ℕ) → firstOf (class s ∷ range s 0 ∷ noted length ∷ []) ≡ Sound → Measured s length
-measured-sound s length e =
-    let a = first-sound _ _ .0 e in
-    let b = first-sound _ _ .0 (a .1) in
-    let c = first-sound _ _ .0 (b .1) in
-    record {
-      classed = passed Class (classed-says s) .0 (a .0);
-      ranged = passed Range (ranged-says s 0) .0 (b .0);
-      note-in = passed Distance (le-says length 1024) .0 (c .0);
     }
 
 -- the cells of a shape in range stand in a table of 2,048

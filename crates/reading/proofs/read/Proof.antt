@@ -1,19 +1,18 @@
--- `rulefile::read` meets its contract.
+-- `reading::read` meets its contract.
 -- Assumes nothing.
 use borrow.Author.Needs.{needs}
 use mathlib.Core.Path.{sym}
 use native.Mathlib.Omega.{arith}
-use lib.ListN.{length}
 use lib.Seq.{length-take-le}
 use Rattle.rulefile.proofs.PartsLaws.{SoundParts, sound-parts}
 use Rattle.rulefile.proofs.ReadingLaws.{read-refused, read-sound}
-use Rattle.rulefile.proofs.read.Statement.{statement}
-use Rattle.rulefile.proofs.read.Tie as tie
-use Rattle.rulefile.proofs.read.Reads as reads
-use Rattle.rulefile.proofs.read.Lts as lts
+use Rattle.reading.proofs.read.Statement.{statement}
+use Rattle.reading.proofs.read.Tie as tie
+use Rattle.reading.proofs.read.Reads as reads
+use Rattle.reading.proofs.read.Lts as lts
 use Rattle.octets.proofs.copy.Reads as copy-reads
-use Rattle.rulefile.proofs.layout.unread.Reads as unread-reads
+use Rattle.reading.proofs.unread.Reads as unread-reads
 use Rattle.rulefile.proofs.parts.Reads as parts-reads
 
 parts-requires : tie.Need-parts-requires
 parts-requires c κs = search needs

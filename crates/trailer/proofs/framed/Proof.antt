@@ -1,12 +1,12 @@
--- `rulefile::layout::framed` meets its contract, test by test.
+-- `trailer::framed` meets its contract, test by test.
 -- Assumes nothing.
 use borrow.Author.Needs.{needs}
-use Rattle.rulefile.proofs.LayoutLaws.{tests}
-use Rattle.rulefile.specs.Layout.{framed}
-use Rattle.rulefile.proofs.layout.framed.Statement.{statement}
-use Rattle.rulefile.proofs.layout.framed.Tie as tie
-use Rattle.rulefile.proofs.layout.framed.Reads as reads
-use Rattle.rulefile.proofs.layout.framed.Lts as lts
+use Rattle.trailer.proofs.HeadLaws.{tests}
+use Rattle.trailer.specs.Conditions.{framed}
+use Rattle.trailer.proofs.framed.Statement.{statement}
+use Rattle.trailer.proofs.framed.Tie as tie
+use Rattle.trailer.proofs.framed.Reads as reads
+use Rattle.trailer.proofs.framed.Lts as lts
 
 returns : tie.Need-returns
 unfolding framed

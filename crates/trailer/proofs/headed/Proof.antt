@@ -1,13 +1,13 @@
--- `rulefile::layout::headed` meets its contract: one law for each return.
+-- `trailer::headed` meets its contract: one law for each return.
 -- Assumes nothing.
 use borrow.Author.Needs.{needs}
-use Rattle.rulefile.proofs.LayoutLaws.{third-told, third-refused, third-sound}
-use Rattle.rulefile.proofs.layout.headed.Statement.{statement}
-use Rattle.rulefile.proofs.layout.headed.Tie as tie
-use Rattle.rulefile.proofs.layout.headed.Reads as reads
-use Rattle.rulefile.proofs.layout.headed.Lts as lts
-use Rattle.rulefile.proofs.layout.placed.Reads as placed-reads
-use Rattle.rulefile.proofs.layout.shaped.Reads as shaped-reads
+use Rattle.trailer.proofs.HeadLaws.{third-told, third-refused, third-sound}
+use Rattle.trailer.proofs.headed.Statement.{statement}
+use Rattle.trailer.proofs.headed.Tie as tie
+use Rattle.trailer.proofs.headed.Reads as reads
+use Rattle.trailer.proofs.headed.Lts as lts
+use Rattle.trailer.proofs.placed.Reads as placed-reads
+use Rattle.trailer.proofs.shaped.Reads as shaped-reads
 
 shaped-requires : tie.Need-shaped-requires
 shaped-requires c κs = search needs

@@ -1,9 +1,9 @@
--- `rulefile::layout::shaped` meets its contract: one law for each return.
+-- `trailer::shaped` meets its contract: one law for each return.
 -- Assumes nothing.
 use borrow.Author.Needs.{needs}
-use Rattle.rulefile.proofs.LayoutLaws.{class-wrong, range-wrong, range-right}
-use Rattle.rulefile.proofs.layout.shaped.Statement.{statement}
-use Rattle.rulefile.proofs.layout.shaped.Tie as tie
+use Rattle.trailer.proofs.HeadLaws.{class-wrong, range-wrong, range-right}
+use Rattle.trailer.proofs.shaped.Statement.{statement}
+use Rattle.trailer.proofs.shaped.Tie as tie
 
 returns : tie.Need-returns
 returns c = search (needs, class-wrong)

@@ -1,14 +1,14 @@
--- `rulefile::layout::placed` meets its contract, test by test.
+-- `trailer::placed` meets its contract, test by test.
 -- Assumes nothing.
 use borrow.Author.Needs.{needs}
 use native.Mathlib.Omega.{arith}
-use Rattle.rulefile.specs.Layout.{placed}
-use Rattle.rulefile.proofs.LayoutLaws.{tests}
+use Rattle.trailer.specs.Conditions.{placed}
+use Rattle.trailer.proofs.HeadLaws.{tests}
 use Rattle.rule.proofs.ByteLaws.{bytes-mul}
-use Rattle.rulefile.proofs.layout.placed.Statement.{statement}
-use Rattle.rulefile.proofs.layout.placed.Tie as tie
-use Rattle.rulefile.proofs.layout.placed.Reads as reads
-use Rattle.rulefile.proofs.layout.placed.Lts as lts
+use Rattle.trailer.proofs.placed.Statement.{statement}
+use Rattle.trailer.proofs.placed.Tie as tie
+use Rattle.trailer.proofs.placed.Reads as reads
+use Rattle.trailer.proofs.placed.Lts as lts
 
 cast-pairs : tie.Need-cast-pairs
 cast-pairs c = search needs

@@ -1,0 +1,15 @@
+-- `reading::unread` meets its contract.
+-- Assumes nothing.
+use mathlib.Core.Path.{refl}
+use Rattle.rule.specs.Drawing.{zeroRule}
+use Rattle.reading.proofs.unread.Statement.{statement}
+use Rattle.reading.proofs.unread.Tie as tie
+use Rattle.reading.proofs.unread.Reads as reads
+use Rattle.reading.proofs.unread.Lts as lts
+
+returns : tie.Need-returns
+unfolding zeroRule
+returns c = refl
+
+pub unread-spec : {M : Type 1} → statement M
+unread-spec = tie.close (tie.spec returns)

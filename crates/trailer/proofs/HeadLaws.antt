@@ -1,0 +1,51 @@
+-- What the checks of a head come to, return by return: the refusals 2 and 3, and a third condition after them.
+-- Assumes nothing.
+use mathlib.Core.Path.{_≡_, sym, _∙_}
+use mathlib.Core.List.{[], _∷_}
+use mathlib.Core.Bool.{Bool, true, false, not, _&&_}
+use Prim.Native.Nat.{ℕ}
+use borrow.Author.Tests.{le-leb, lt-leb, le-ltb, lt-ltb, eq-eqb, ne-eqb, not-true, not-false}
+use lib.Dec.{leb}
+use Rattle.rule.specs.Refusals.{refuseIf, firstOf}
+use Rattle.rule.proofs.RefusalLaws.{append-hit, append-more, first-one}
+use Rattle.rule.specs.declared.Shape.{Shape}
+use Rattle.rule.specs.declared.Refusal.{Refusal}
+use Rattle.rule.specs.declared.Refusal.the-variants.{Class, Range}
+use Rattle.rule.specs.declared.Verdict.{Verdict}
+use Rattle.rule.specs.declared.Verdict.the-variants.{Sound, Refused}
+use Rattle.trailer.specs.Conditions.{classed, class, ranged, range}
+
+-- a comparison's answer from what it compares
+pub ruleset tests = (le-leb, lt-leb, le-ltb, lt-ltb, eq-eqb, ne-eqb)
+
+-- the refusals 2 and 3
+
+module _ (s : Shape) (spare : ℕ) where
+  pub class-wrong : not (leb 1 (s .class) && leb (s .class) 4) ≡ true → Refused Class ≡ firstOf (class s ∷ range s spare ∷ [])
+  unfolding firstOf classed
+  class-wrong h = rw h
+
+  module _ (right : not (leb 1 (s .class) && leb (s .class) 4) ≡ false) {ok : Bool} (is : ok ≡ ranged s spare) where
+    pub range-wrong : not ok ≡ true → Refused Range ≡ firstOf (class s ∷ range s spare ∷ [])
+    unfolding firstOf classed
+    range-wrong h = rw (right, ← is, not-true ok h)
+
+    pub range-right : not ok ≡ false → Sound ≡ firstOf (class s ∷ range s spare ∷ [])
+    unfolding firstOf classed
+    range-right h = rw (right, ← is, not-false ok h)
+
+-- a third condition after two of which the first refusal is v
+
+module _ (a b : Verdict) {v : Verdict} (is : v ≡ firstOf (a ∷ b ∷ [])) where
+  pub third-told : (w : Verdict) {r : Refusal} → v ≡ Refused r → v ≡ firstOf (a ∷ b ∷ w ∷ [])
+  third-told w {r} e = e ∙ sym (append-hit (a ∷ b ∷ []) (w ∷ []) r (sym is ∙ e))
+
+  third : v ≡ Sound → (w : Verdict) → w ≡ firstOf (a ∷ b ∷ w ∷ [])
+  third e w = sym (append-more (a ∷ b ∷ []) (w ∷ []) (sym is ∙ e) ∙ first-one w)
+
+  module _ (e : v ≡ Sound) (x : Refusal) {ok t : Bool} (q : ok ≡ t) where
+    pub third-refused : not ok ≡ true → Refused x ≡ firstOf (a ∷ b ∷ refuseIf (not t) x ∷ [])
+    third-refused h = rw (← q, not-true ok h) (third e (Refused x))
+
+    pub third-sound : not ok ≡ false → Sound ≡ firstOf (a ∷ b ∷ refuseIf (not t) x ∷ [])
+    third-sound h = rw (← q, not-false ok h) (third e Sound)

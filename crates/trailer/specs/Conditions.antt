@@ -1,0 +1,52 @@
+-- The conditions 1 to 4 in order: the frame of a rule file, and what its trailer says.
+-- Assumes nothing.
+use Prim.Native.Nat.{ℕ, _+_, _-_, _*_}
+use mathlib.Core.Bool.{Bool, not, _&&_, _||_}
+use mathlib.Core.List.{List}
+use lib.ListN.{length, getD}
+use lib.Dec.{leb, ltb, eqb}
+use Rattle.rule.specs.Refusals.{refuseIf}
+use Rattle.rule.specs.declared.Shape.{Shape}
+use Rattle.rule.specs.declared.Refusal.the-variants.{Frame, Class, Range, Distance}
+use Rattle.rule.specs.declared.Verdict.{Verdict}
+use Rattle.trailer.specs.declared.Trailer.{Trailer}
+
+-- 1: under 12 or over 3,212 bytes, or bytes 10-11 of the trailer wrong
+unfoldable pub framed : List ℕ → Bool
+framed f =
+    leb 12 (length f) && (leb (length f) 3212 && (eqb (getD f (length f - 2) 0) 72 && eqb (getD f (length f - 1) 0) 82))
+
+abbrev pub frame : List ℕ → Verdict
+frame f = refuseIf (not (framed f)) Frame
+
+-- 2: class not 1 to 4
+unfoldable pub classed : Shape → Bool
+classed s = leb 1 (s .class) && leb (s .class) 4
+
+abbrev pub class : Shape → Verdict
+class s = refuseIf (not (classed s)) Class
+
+-- 3: N, K, m out of range, initial state >= N, byte 5 not 0, or m not 1 in class 1, 2, 4
+unfoldable pub ranged : Shape → ℕ → Bool
+ranged s spare =
+    leb 1 (s .states) && (leb (s .states) 64 && (leb 1 (s .events) && (leb (s .events) 32 && (leb 1 (s .pairs) && (leb (s .pairs) 8
+    && (ltb (s .initial .0) (s .states) && (eqb spare 0 && (eqb (s .class) 3 || eqb (s .pairs) 1))))))))
+
+abbrev pub range : Shape → ℕ → Verdict
+range s spare = refuseIf (not (ranged s spare)) Range
+
+-- the distances from the file's end back to the pairs and back to the table
+abbrev pub pairsBack : Shape → ℕ
+pairsBack s = 12 + 16 * s .pairs
+
+abbrev pub tableBack : Shape → ℕ
+tableBack s = 12 + 16 * s .pairs + s .states * s .events
+
+-- 4: a back distance is wrong, the file is shorter than the table's distance, or the note is over 1,024
+unfoldable pub placed : Trailer → ℕ → Bool
+placed t size =
+    eqb (t .pairs) (pairsBack (t .shape)) && (eqb (t .table) (tableBack (t .shape))
+    && (leb (tableBack (t .shape)) size && leb (size - tableBack (t .shape)) 1024))
+
+abbrev pub distance : Trailer → ℕ → Verdict
+distance t size = refuseIf (not (placed t size)) Distance

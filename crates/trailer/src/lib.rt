@@ -1,0 +1,94 @@
+// The frame of a rule file and its last twelve bytes, the trailer: the refusals 1 to 4 (document 01, "Layouts" and "Refusal numbers").
+ghost use mathlib.Core.Path.{_≡_};
+ghost use mathlib.Core.List.{[], _∷_};
+ghost use Rattle.rule.specs.Refusals.{firstOf};
+ghost use Rattle.trailer.specs.Conditions.{class, range, distance};
+use rule::Refusal;
+use rule::Rule;
+use rule::Shape;
+use rule::Verdict;
+
+// What the last twelve bytes of a file say.
+pub struct Trailer {
+    pub shape: Shape,
+    pub spare: u8,
+    pub table: usize,
+    pub pairs: usize,
+}
+
+// Whether a file has a length that one can have, and ends with the two marks.
+pub fn framed(file: &[u8]) -> bool
+    ensures { λ r. ⌜ r ≡ Rattle.trailer.specs.Conditions.framed (now (file .entry)) ⌝ }
+{
+    let len = file.len();
+    if len < 12 {
+        return false;
+    }
+    if 3212 < len {
+        return false;
+    }
+    if file[len - 2] != 72 {
+        return false;
+    }
+    file[len - 1] == 82
+}
+
+// Whether N, K, m, the initial state and the spare byte are in range, and m is 1 where the class has one pair. The tests are joined by
+// `&`, as in the definition: none of them can fail, and there is no branch for each.
+fn ranged(shape: Shape, spare: u8) -> bool
+    ensures { λ r. ⌜ r ≡ Rattle.trailer.specs.Conditions.ranged shape spare ⌝ }
+{
+    let states = (1 <= shape.states) & (shape.states <= Rule::STATES);
+    let events = (1 <= shape.events) & (shape.events <= Rule::EVENTS);
+    let pairs = (1 <= shape.pairs) & (shape.pairs <= Rule::PAIRS);
+    let initial = shape.initial;
+    let start = (initial.0 < shape.states) & (spare == 0);
+    states & (events & (pairs & (start & ((shape.class == 3) | (shape.pairs == 1)))))
+}
+
+// The refusals 2 and 3.
+pub fn shaped(shape: Shape, spare: u8) -> Verdict
+    ensures { λ r. ⌜ r ≡ firstOf (class shape ∷ range shape spare ∷ []) ⌝ }
+{
+    if !((1 <= shape.class) & (shape.class <= 4)) {
+        return Verdict::Refused(Refusal::Class);
+    }
+    if !ranged(shape, spare) {
+        return Verdict::Refused(Refusal::Range);
+    }
+    Verdict::Sound
+}
+
+// Whether the back distances are right, the file is as long as they say, and its note is not too long.
+fn placed(trailer: Trailer, len: usize) -> bool
+    ensures { λ r. ⌜ r ≡ Rattle.trailer.specs.Conditions.placed trailer len ⌝ }
+{
+    let shape = trailer.shape;
+    let pairs = 12 + 16 * (shape.pairs as usize);
+    let table = pairs + (shape.states as usize) * (shape.events as usize);
+    if trailer.pairs != pairs {
+        return false;
+    }
+    if trailer.table != table {
+        return false;
+    }
+    if len < table {
+        return false;
+    }
+    len - table <= 1024
+}
+
+// The refusals 2 to 4 of a file of so many bytes.
+pub fn headed(trailer: Trailer, len: usize) -> Verdict
+    ensures { λ r. ⌜ r ≡ firstOf (class (trailer .shape) ∷ range (trailer .shape) (trailer .spare) ∷ distance trailer len ∷ []) ⌝ }
+{
+    let shape = trailer.shape;
+    let verdict = shaped(shape, trailer.spare);
+    let Verdict::Sound = verdict else {
+        return verdict;
+    };
+    if !placed(trailer, len) {
+        return Verdict::Refused(Refusal::Distance);
+    }
+    Verdict::Sound
+}
