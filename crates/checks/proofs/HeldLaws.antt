@@ -1,37 +1,47 @@
--- What `checked` comes to, return by return; what it comes to of a shape that passed check 3; and the numbers that it gives.
+-- What check 3 comes to, return by return; what `checked` comes to of a shape that passed it; and the numbers that it gives.
 -- Assumes nothing.
-use mathlib.Core.Path.{_≡_, _∙_}
+use mathlib.Core.Path.{_≡_, sym, _∙_}
 use mathlib.Core.Bool.{true, false, not}
 use mathlib.Core.List.{List}
 use Prim.Native.Nat.{ℕ, _≤_}
 use native.Mathlib.Omega.{arith}
 use borrow.Author.Tests.{le-leb, not-false}
 use Rattle.rule.specs.Drawing.{body}
-use Rattle.rule.specs.Refusals.{firstOf, conditions}
+use Rattle.rule.specs.Refusals.{refuseIf, firstOf, conditions}
 use Rattle.rule.proofs.BoolLaws.{and-says, le-says}
+use Rattle.rule.proofs.RefusalLaws.{refuse-sound}
 use Rattle.rule.proofs.NumberLaws.{Gives, refuse-gives, first-gives, and, all-wider, conditions-give}
 use Rattle.rule.specs.declared.Pair.{Pair}
 use Rattle.rule.specs.declared.Shape.{Shape}
 use Rattle.rule.specs.declared.Refusal.the-variants.{Range}
 use Rattle.rule.specs.declared.Verdict.{Verdict}
-use Rattle.rule.specs.declared.Verdict.the-variants.{Refused}
+use Rattle.rule.specs.declared.Verdict.the-variants.{Sound, Refused}
 use Rattle.checks.specs.Checked.{holds, checkedOf}
 
--- what a shape has that can be held
-pub passed : (s : Shape) → not (holds s) ≡ false → (s .states ≤ 64) × (1 ≤ s .pairs) × (s .pairs ≤ 8)
-passed s h =
-    let p = and-says (le-says (s .states) 64) (and-says (le-says 1 (s .pairs)) (le-says (s .pairs) 8)) .0 (not-false (holds s) h) in
-    (p .0, p .1 .0, p .1 .1)
+module _ (s : Shape) where
+  pub held : holds s ≡ true → Sound ≡ refuseIf (not (holds s)) Range
+  held h = rw h
 
-module _ (s : Shape) (table : List ℕ) (ps : List Pair) where
-  pub not-held : not (holds s) ≡ true → Refused Range ≡ checkedOf s table ps
-  unfolding checkedOf firstOf
+  pub not-held : holds s ≡ false → Refused Range ≡ refuseIf (not (holds s)) Range
   not-held h = rw h
 
-  pub held : not (holds s) ≡ false → {v : Verdict} → v ≡ firstOf (conditions (body s table ps)) → v ≡ checkedOf s table ps
-  unfolding checkedOf firstOf
-  held h e = e ∙ rw h
+  -- what a shape has that passed
+  module _ {v : Verdict} (is : v ≡ refuseIf (not (holds s)) Range) (sound : v ≡ Sound) where
+    passed : (s .states ≤ 64) × ((1 ≤ s .pairs) × (s .pairs ≤ 8))
+    passed =
+        and-says (le-says (s .states) 64) (and-says (le-says 1 (s .pairs)) (le-says (s .pairs) 8)) .0
+        (not-false (holds s) (refuse-sound (not (holds s)) Range .0 (sym is ∙ sound)))
 
+    pub few : s .states ≤ 64
+    few = passed .0
+
+    pub some : 1 ≤ s .pairs
+    some = passed .1 .0
+
+    pub fits : s .pairs ≤ 8
+    fits = passed .1 .1
+
+module _ (s : Shape) (table : List ℕ) (ps : List Pair) where
   -- of a shape in range: the first of the conditions 5 to 10
   pub in-range : s .states ≤ 64 → 1 ≤ s .pairs → s .pairs ≤ 8 → checkedOf s table ps ≡ firstOf (conditions (body s table ps))
   unfolding checkedOf firstOf

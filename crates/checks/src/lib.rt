@@ -3,16 +3,16 @@
 ghost use mathlib.Core.Path.{_≡_};
 ghost use mathlib.Core.Bool.{not};
 ghost use mathlib.Core.List.{[]};
-ghost use Prim.Native.Nat.{ℕ, _≤_, _<_};
-ghost use lib.ListN.{take};
-ghost use Rattle.rule.specs.Classes.{forbids, forbidsSome, movesInto, movesOut};
+ghost use Prim.Native.Nat.{_≤_, _<_};
+ghost use lib.ListN.{drop};
 ghost use Rattle.rule.specs.Drawing.{body, pairAt};
 ghost use Rattle.rule.specs.Reach.{Closed};
 ghost use Rattle.rule.specs.Refusals.{refuseIf, firstOf, conditions};
 ghost use Rattle.rule.specs.Refusals as paper;
-ghost use Rattle.rule.specs.Sets.{has, isEmpty, namesPast};
-ghost use Rattle.rule.specs.declared.Refusal.the-variants.{Excess};
-ghost use Rattle.checks.specs.Checked.{checkedOf};
+ghost use Rattle.rule.specs.Sets.{namesPast};
+ghost use Rattle.rule.specs.declared.Refusal.the-variants.{Range};
+ghost use Rattle.checks.specs.Checked.{holds, checkedOf};
+use classes::banned;
 use operations::stops;
 use reach::next;
 use reach::reached;
@@ -25,6 +25,17 @@ use rule::Shape;
 use rule::StateNo;
 use rule::Verdict;
 
+// 3: more states or pairs than can be held here, or no pair.
+fn range(shape: Shape) -> Verdict
+    ensures { λ r. ⌜ r ≡ refuseIf (not (holds shape)) Range ⌝ }
+{
+    let pairs_held = (1 <= shape.pairs) & (shape.pairs <= Rule::PAIRS);
+    if (shape.states <= Rule::STATES) & pairs_held {
+        return Verdict::Sound;
+    }
+    Verdict::Refused(Refusal::Range)
+}
+
 // 5: the first entry in row order that names no state.
 fn entries(shape: Shape, table: &[u8]) -> Verdict
     ensures { λ r. ⌜ r ≡ paper.entries (body shape (now (table .entry)) []) ⌝ }
@@ -33,10 +44,11 @@ fn entries(shape: Shape, table: &[u8]) -> Verdict
     let events = shape.events;
     let mut verdict = Verdict::Sound;
     'cells: for s in 0..states {
+        let state = StateNo(s);
         for e in 0..events {
-            let t = next(table, events, StateNo(s), EventNo(e));
-            if states <= t.0 {
-                verdict = Verdict::Refused(Refusal::Entry(StateNo(s), EventNo(e)));
+            let event = EventNo(e);
+            if states <= next(table, events, state, event).0 {
+                verdict = Verdict::Refused(Refusal::Entry(state, event));
                 break 'cells;
             }
         }
@@ -80,16 +92,6 @@ fn members(shape: Shape, pairs: [Pair; 8]) -> Verdict
     Verdict::Sound
 }
 
-// 7 of a set that the class wants empty.
-fn wanted_empty(set: u64) -> Verdict
-    ensures { λ r. ⌜ r ≡ refuseIf (not (isEmpty set)) Excess ⌝ }
-{
-    if set != 0 {
-        return Verdict::Refused(Refusal::Excess);
-    }
-    Verdict::Sound
-}
-
 // 7: R in class 1, P in class 2 and in class 4.
 fn excess(shape: Shape, pairs: [Pair; 8]) -> Verdict
     requires { ⌜ (1 ≤ shape .pairs) × (shape .pairs ≤ 8) ⌝ }
@@ -97,64 +99,12 @@ fn excess(shape: Shape, pairs: [Pair; 8]) -> Verdict
 {
     let pair = pair_at(shape, pairs, 0);
     let class = shape.class;
-    if class == 1 {
-        return wanted_empty(pair.r);
-    }
-    if class == 2 {
-        return wanted_empty(pair.p);
-    }
-    if class == 4 {
-        return wanted_empty(pair.p);
+    let in_r = (class == 1) & (pair.r != 0);
+    let in_p = ((class == 2) | (class == 4)) & (pair.p != 0);
+    if in_r | in_p {
+        return Verdict::Refused(Refusal::Excess);
     }
     Verdict::Sound
-}
-
-// The states to which a move from s is one from outside P into P: all of P, where s is outside.
-fn entering(pair: Pair, s: StateNo) -> u64
-    ensures { λ r. ⌜ ((t : ℕ) → t < 64 → has r t ≡ movesInto pair (s .0) t) ⌝ }
-{
-    if contains(pair.p, s) {
-        return 0;
-    }
-    pair.p
-}
-
-// The states to which a move from s is one from R out of R: all outside R, where s is in it.
-fn leaving(pair: Pair, s: StateNo) -> u64
-    ensures { λ r. ⌜ ((t : ℕ) → t < 64 → has r t ≡ movesOut pair (s .0) t) ⌝ }
-{
-    if contains(pair.r, s) {
-        return !pair.r;
-    }
-    0
-}
-
-// The states to which the class forbids a move from s for a pair.
-fn banned_by(class: u8, pair: Pair, s: StateNo) -> u64
-    ensures { λ r. ⌜ ((t : ℕ) → t < 64 → has r t ≡ forbids class pair (s .0) t) ⌝ }
-{
-    if class == 1 {
-        return entering(pair, s);
-    }
-    if class == 2 {
-        return leaving(pair, s);
-    }
-    if class == 3 {
-        return entering(pair, s) | leaving(pair, s);
-    }
-    0
-}
-
-// The states to which it does for one of the used pairs: what a row's moves are held to.
-fn banned(shape: Shape, pairs: [Pair; 8], s: StateNo) -> u64
-    requires { ⌜ shape .pairs ≤ 8 ⌝ }
-    ensures { λ r. ⌜ ((t : ℕ) → t < 64 → has r t ≡ forbidsSome (shape .class) (take (shape .pairs) pairs) (s .0) t) ⌝ }
-{
-    let mut set: u64 = 0;
-    for i in 0..shape.pairs {
-        set |= banned_by(shape.class, pairs[i as usize], s);
-    }
-    set
 }
 
 // 8: the first move in row order that the class forbids. Class 4 forbids none. Check 5 has found every entry below N, so that
@@ -170,11 +120,12 @@ fn moves(shape: Shape, table: &[u8], pairs: [Pair; 8]) -> Verdict
     let events = shape.events;
     let mut verdict = Verdict::Sound;
     'rows: for s in 0..states {
-        let set = banned(shape, pairs, StateNo(s));
+        let from = StateNo(s);
+        let set = banned(shape, pairs, from);
         for e in 0..events {
-            let t = next(table, events, StateNo(s), EventNo(e));
-            if contains(set, t) {
-                verdict = Verdict::Refused(Refusal::Move(StateNo(s), EventNo(e)));
+            let code = EventNo(e);
+            if contains(set, next(table, events, from, code)) {
+                verdict = Verdict::Refused(Refusal::Move(from, code));
                 break 'rows;
             }
         }
@@ -187,11 +138,10 @@ fn stopped(shape: Shape, table: &[u8], pairs: [Pair; 8]) -> Verdict
     requires { ⌜ shape .pairs ≤ 8 ⌝ }
     ensures { λ r. ⌜ r ≡ paper.stopped (body shape (now (table .entry)) pairs) ⌝ }
 {
-    let initial = shape.initial;
-    let reach = reached(table, shape.states, shape.events, initial);
+    let reach = reached(table, shape.states, shape.events, shape.initial);
     for i in 0..shape.pairs {
         let pair = pair_at(shape, pairs, i);
-        if stops(pair, reach, initial) {
+        if stops(pair, reach, shape.initial) {
             return Verdict::Refused(Refusal::Stopping(i));
         }
     }
@@ -205,28 +155,18 @@ fn empties(shape: Shape, pairs: [Pair; 8]) -> Verdict
 {
     for i in 0..shape.pairs {
         let pair = pair_at(shape, pairs, i);
-        if pair.r == 0 {
-            if pair.p == 0 {
-                return Verdict::Refused(Refusal::Empty(i));
-            }
+        if (pair.r == 0) & (pair.p == 0) {
+            return Verdict::Refused(Refusal::Empty(i));
         }
     }
     Verdict::Sound
 }
 
-// The checks 5 to 10 in order, of a shape whose states a set can hold and whose pairs the array can.
-fn in_order(shape: Shape, table: &[u8], pairs: [Pair; 8]) -> Verdict
-    requires { ⌜ (shape .states ≤ 64) × (1 ≤ shape .pairs) × (shape .pairs ≤ 8) ⌝ }
-    ensures { λ r. ⌜ r ≡ firstOf (conditions (body shape (now (table .entry)) pairs)) ⌝ }
+// The checks 7 to 10 in order, of what passed 3 and 5.
+fn from_excess(shape: Shape, table: &[u8], pairs: [Pair; 8]) -> Verdict
+    requires { ⌜ (shape .states ≤ 64) × (1 ≤ shape .pairs) × (shape .pairs ≤ 8) × Closed (now table) (shape .states) (shape .events) ⌝ }
+    ensures { λ r. ⌜ r ≡ firstOf (drop 2 (conditions (body shape (now (table .entry)) pairs))) ⌝ }
 {
-    let verdict = entries(shape, table);
-    let Verdict::Sound = verdict else {
-        return verdict;
-    };
-    let verdict = members(shape, pairs);
-    let Verdict::Sound = verdict else {
-        return verdict;
-    };
     let verdict = excess(shape, pairs);
     let Verdict::Sound = verdict else {
         return verdict;
@@ -242,13 +182,21 @@ fn in_order(shape: Shape, table: &[u8], pairs: [Pair; 8]) -> Verdict
     empties(shape, pairs)
 }
 
-// The checks 5 to 10 in order. A shape with more states or pairs than can be held here, or with no pair, is refused 3.
+// 3 of a shape that cannot be held here, and then the checks 5 to 10 in order.
 pub fn checked(shape: Shape, table: &[u8], pairs: [Pair; 8]) -> Verdict
     ensures { λ r. ⌜ r ≡ checkedOf shape (now (table .entry)) pairs ⌝ }
 {
-    let pairs_held = (1 <= shape.pairs) & (shape.pairs <= Rule::PAIRS);
-    if !((shape.states <= Rule::STATES) & pairs_held) {
-        return Verdict::Refused(Refusal::Range);
-    }
-    in_order(shape, table, pairs)
+    let verdict = range(shape);
+    let Verdict::Sound = verdict else {
+        return verdict;
+    };
+    let verdict = entries(shape, table);
+    let Verdict::Sound = verdict else {
+        return verdict;
+    };
+    let verdict = members(shape, pairs);
+    let Verdict::Sound = verdict else {
+        return verdict;
+    };
+    from_excess(shape, table, pairs)
 }

@@ -4,14 +4,13 @@
 -- `demand-2`: of every sheet that is made. `every-rule`: which rules have their sheet made. `round-trips`: of rule files.
 -- Assumes nothing.
 use Prim.Native.Nat.{ℕ, _+_, _*_, _/_, _%_, _≤_, _<_}
-use mathlib.Core.Path.{_≡_, ap, _∙_}
+use mathlib.Core.Path.{_≡_, _∙_}
 use mathlib.Core.Bool.{true}
 use mathlib.Core.Logic.{_↔_}
 use mathlib.Core.List.{List, _++_}
 use lib.ListN.{length, getD, drop, take}
 use Rattle.octets.specs.Numbers.{Bytes}
-use Rattle.rule.specs.Drawing.{Drawing, states, events, initial, next, stateNo, drawn, ruleOf, Same}
-use Rattle.rule.specs.Operations.{operation}
+use Rattle.rule.specs.Drawing.{Drawing, states, events, initial, stateNo, drawn, ruleOf, Same}
 use Rattle.rule.specs.Stopping.{stopping}
 use Rattle.rule.specs.Classes.{OfClass}
 use Rattle.rule.specs.Constructions.{PublishedMove, PublishedStop}

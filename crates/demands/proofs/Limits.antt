@@ -2,7 +2,7 @@
 -- Assumes nothing.
 use mathlib.Core.Path.{_≡_, refl}
 use mathlib.Core.List.{List, [], _∷_, _++_}
-use Prim.Native.Nat.{ℕ, zero, suc, _+_, _-_, _^_}
+use Prim.Native.Nat.{ℕ, zero, suc, _-_, _^_}
 use lib.ListN.{replicate}
 use Rattle.rule.specs.Sets.{has, insert, including}
 use Rattle.rule.specs.Reach.{target, withMoves, movedBelow, movedSet, spread, reachedWithin}

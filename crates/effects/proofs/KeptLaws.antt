@@ -17,7 +17,6 @@ use Rattle.effects.specs.Effects.{answerIn, memoryIn, outputIn, TurnProm
 use Rattle.effects.specs.declared.Run.{Run}
 use Rattle.effects.specs.declared.Turn.{Turn}
 use Rattle.effects.specs.declared.Turn.the-variants.{Move, Refused as Away}
-use Rattle.effects.specs.declared.Answer.{Answer}
 use Rattle.effects.specs.declared.Answer.the-variants.{Refused}
 
 -- a refused answer comes of a refused turn

@@ -20,6 +20,11 @@ pub so : (b : Bool) → (b ≡ false → ⊥) → b ≡ true
 so true n = refl
 so false n = absurd (n refl)
 
+-- a test, or one that fails
+pub or-false : (b : Bool) → b ≡ b || false
+or-false true = refl
+or-false false = refl
+
 -- what a test says
 
 abbrev pub Says : Bool → Type 0 → Type 0

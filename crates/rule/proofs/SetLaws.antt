@@ -12,7 +12,7 @@ use lib.Count.{trailingZeros, trailing-le}
 use lib.Pow.{pow-pos, pow-lt, pow-add, shl-shr, shr-shr, pow-mono, shl-exact}
 use lib.Dec.{eqb}
 use borrow.Author.Tests.{eqb-true, eqb-false, eq-eqb, ne-eqb, lt-ltb, le-ltb, not-true, not-false}
-use Rattle.rule.specs.Sets.{bit, has, insert, including, meetsBelow, meets, isEmpty, namesPast}
+use Rattle.rule.specs.Sets.{bit, has, Members, insert, including, meetsBelow, meets, isEmpty, namesPast}
 
 -- a bit is 0 or 1
 pub bit-cases : (x s : ℕ) → (bit x s ≡ 0) ⊎ (bit x s ≡ 1)
@@ -181,6 +181,10 @@ same-members k x y hx hy same =
     true-or (has x s)
     (λ m. bit-of-has x s m ∙ sym (bit-of-has y s (sym (same s h) ∙ m)))
     (λ m. bit-of-out x s m ∙ sym (bit-of-out y s (sym (same s h) ∙ m))))
+
+-- there is one set of 64 bits whose members are those of a test
+pub one-set : (p : ℕ → Bool) (x y : ℕ) → x < 2 ^ 64 → y < 2 ^ 64 → Members x p → Members y p → x ≡ y
+one-set p x y hx hy mx my = same-members 64 x y hx hy (λ s h. mx s h ∙ sym (my s h))
 
 -- common members
 

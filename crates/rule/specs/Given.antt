@@ -6,7 +6,6 @@ use mathlib.Core.Logic.{_⊎_}
 use Rattle.rule.specs.Drawing.{Drawing, states, events, count, next, pairAt}
 use Rattle.rule.specs.Published.{In, Out, ReachesNone}
 use Rattle.rule.specs.declared.Refusal.{Refusal}
-use Rattle.rule.specs.declared.Refusal.the-variants.{Entry, Member, Empty}
 use Rattle.rule.specs.declared.Verdict.{Verdict}
 use Rattle.rule.specs.declared.Verdict.the-variants.{Sound, Refused}
 

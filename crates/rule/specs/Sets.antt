@@ -1,6 +1,7 @@
 -- Sets of states. A set is a number: state s is a member when bit s is 1.
 -- Assumes nothing.
-use Prim.Native.Nat.{ℕ, zero, suc, _+_, _/_, _%_, _^_}
+use Prim.Native.Nat.{ℕ, zero, suc, _+_, _/_, _%_, _^_, _<_}
+use mathlib.Core.Path.{_≡_}
 use mathlib.Core.Bool.{Bool, false, cond, not, _&&_, _||_}
 use lib.Dec.{eqb, ltb}
 
@@ -11,6 +12,10 @@ bit x s = x / 2 ^ s % 2
 -- whether s is a member of x
 unfoldable pub has : ℕ → ℕ → Bool
 has x s = eqb (bit x s) 1
+
+-- the states that a set of 64 bits can hold are members of x exactly where p holds of them
+abbrev pub Members : ℕ → (ℕ → Bool) → Type 0
+Members x p = (s : ℕ) → s < 64 → has x s ≡ p s
 
 -- x with s
 unfoldable pub insert : ℕ → ℕ → ℕ

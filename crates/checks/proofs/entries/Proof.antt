@@ -10,15 +10,12 @@ use Rattle.rule.proofs.RefusalLaws.{below-none, cells-none, cells-more}
 use Rattle.checks.proofs.CheckLaws.{entryOf, entry-more, entry-hit, entries-all}
 use Rattle.checks.proofs.entries.Statement.{statement}
 use Rattle.checks.proofs.entries.Tie as tie
-use Rattle.checks.proofs.entries.Reads as reads
-use Rattle.checks.proofs.entries.Lts as lts
-use Rattle.reach.proofs.next.Reads as next-reads
 
 abbrev Inv-loop : tie.InvT-loop
-Inv-loop table states events verdict₀ s e₀ verdict e = (e ≤ events) × (verdict ≡ Sound) × (firstBelow (entryOf table states events s) e ≡ Sound)
+Inv-loop table states events verdict₀ s state e₀ verdict e = (e ≤ events) × (verdict ≡ Sound) × (firstBelow (entryOf table states events s) e ≡ Sound)
 
 abbrev μ-loop : tie.MeasureT-loop
-μ-loop table states events verdict₀ s e₀ verdict e = events - e
+μ-loop table states events verdict₀ s state e₀ verdict e = events - e
 
 abbrev Inv-cells : tie.InvT-cells
 Inv-cells table states events verdict₀ s₀ verdict s = (s ≤ states) × (verdict ≡ Sound) × (firstCell (entryOf table states events) s events ≡ Sound)
@@ -30,7 +27,7 @@ cells-holds : tie.Need-cells-holds Inv-loop μ-loop Inv-cells μ-cells
 cells-holds c = (omega arith, refl, cells-none _ _)
 
 loop-holds : tie.Need-loop-holds Inv-loop μ-loop Inv-cells μ-cells
-loop-holds c = (omega arith, c .before .cells .inv .1, below-none _)
+loop-holds c = (omega arith, search needs, below-none _)
 
 next-requires : tie.Need-next-requires Inv-loop μ-loop Inv-cells μ-cells
 next-requires c κs = search needs
@@ -42,9 +39,7 @@ loop-less : tie.Need-loop-less Inv-loop μ-loop Inv-cells μ-cells
 loop-less c = omega arith
 
 loop-again : tie.Need-loop-again Inv-loop μ-loop Inv-cells μ-cells
-loop-again c =
-    let l = c .before .before .before .before .loop in
-    (omega arith, l .inv .1, entry-more (c .before .before .before .before .before .before .before .before .args .shape) _ _ (l .e) (l .inv .2) (c .before .before .next .ensures) (c .if1 .left))
+loop-again c = (omega arith, search needs, entry-more _ _ _ _ _ (c .before .before .next .ensures) (search needs) (c .if1 .left))
 
 add-s : tie.Need-add-s Inv-loop μ-loop Inv-cells μ-cells
 add-s c = omega arith
@@ -53,19 +48,13 @@ cells-less : tie.Need-cells-less Inv-loop μ-loop Inv-cells μ-cells
 cells-less c = omega arith
 
 cells-again : tie.Need-cells-again Inv-loop μ-loop Inv-cells μ-cells
-cells-again c =
-    let l = c .before .loop in
-    let r = c .before .before .before .cells in
-    (omega arith, l .inv .1, cells-more _ _ (r .s) (l .e) (r .inv .2) (l .inv .2) (l .inv .0) (c .loop-test .left))
+cells-again c = (omega arith, search needs, search (needs, cells-more))
 
 returns : tie.Need-returns Inv-loop μ-loop Inv-cells μ-cells
 returns c = search (needs, entries-all)
 
 returns-2 : tie.Need-returns-2 Inv-loop μ-loop Inv-cells μ-cells
-returns-2 c =
-    let l = c .before .before .before .before .loop in
-    let r = c .before .before .before .before .before .before .cells in
-    entry-hit (c .before .before .before .before .before .before .before .before .args .shape) _ (r .s) (l .e) (r .inv .2) (l .inv .2) (c .before .before .next .ensures) (c .if1 .taken) (c .before .before .before .before .before .cells-test .taken) (c .before .before .before .loop-test .taken)
+returns-2 c = entry-hit _ _ _ _ (c .before .before .next .ensures) (search needs) (search needs) (c .if1 .taken) (search needs) (search needs)
 
 pub entries-spec : {M : Type 1} → statement M
 entries-spec =

@@ -13,10 +13,10 @@ use Rattle.checks.proofs.moves.Statement.{statement}
 use Rattle.checks.proofs.moves.Tie as tie
 
 abbrev Inv-loop : tie.InvT-loop
-Inv-loop shape table pairs states events verdict₀ s set e₀ verdict e = (e ≤ events) × (verdict ≡ Sound) × (firstBelow (moveOf (shape .class) (take (shape .pairs) pairs) table events s) e ≡ Sound)
+Inv-loop shape table pairs states events verdict₀ s from set e₀ verdict e = (e ≤ events) × (verdict ≡ Sound) × (firstBelow (moveOf (shape .class) (take (shape .pairs) pairs) table events s) e ≡ Sound)
 
 abbrev μ-loop : tie.MeasureT-loop
-μ-loop shape table pairs states events verdict₀ s set e₀ verdict e = events - e
+μ-loop shape table pairs states events verdict₀ s from set e₀ verdict e = events - e
 
 abbrev Inv-rows : tie.InvT-rows
 Inv-rows shape table pairs states events verdict₀ s₀ verdict s = (s ≤ states) × (verdict ≡ Sound) × (firstCell (moveOf (shape .class) (take (shape .pairs) pairs) table events) s events ≡ Sound)
@@ -34,7 +34,7 @@ banned-requires : tie.Need-banned-requires Inv-loop μ-loop Inv-rows μ-rows
 banned-requires c κs = search needs
 
 loop-holds : tie.Need-loop-holds Inv-loop μ-loop Inv-rows μ-rows
-loop-holds c = (omega arith, c .before .before .rows .inv .1, below-none _)
+loop-holds c = (omega arith, search needs, below-none _)
 
 next-requires : tie.Need-next-requires Inv-loop μ-loop Inv-rows μ-rows
 next-requires c κs = search needs
@@ -49,16 +49,7 @@ loop-less : tie.Need-loop-less Inv-loop μ-loop Inv-rows μ-rows
 loop-less c = omega arith
 
 loop-again : tie.Need-loop-again Inv-loop μ-loop Inv-rows μ-rows
-loop-again c =
-    let l = c .before .before .before .before .loop in
-    let r = c .before .before .before .before .before .before .before .rows in
-    let i = c .before .before .before .before .before .before .before .before .before .before .before in (
-      omega arith,
-      l .inv .1,
-      move-more (i .args .shape) (i .args .table .now) (i .args .pairs) (i .pre .0) (i .pre .2) (r .s) (l .e)
-          (c .before .before .before .before .before .before .rows-test .taken) (c .before .before .before .loop-test .taken) (c .before .before .before .before .before .banned .result) (c .before .before .before .before .before .banned .ensures)
-          (c .before .before .next .ensures) (c .before .contains .ensures) (l .inv .2) (c .if2 .left),
-    )
+loop-again c = (omega arith, search needs, search (needs, move-more))
 
 add-s : tie.Need-add-s Inv-loop μ-loop Inv-rows μ-rows
 add-s c = omega arith
@@ -67,22 +58,13 @@ rows-less : tie.Need-rows-less Inv-loop μ-loop Inv-rows μ-rows
 rows-less c = omega arith
 
 rows-again : tie.Need-rows-again Inv-loop μ-loop Inv-rows μ-rows
-rows-again c =
-    let l = c .before .loop in
-    let r = c .before .before .before .before .rows in
-    (omega arith, l .inv .1, cells-more _ _ (r .s) (l .e) (r .inv .2) (l .inv .2) (l .inv .0) (c .loop-test .left))
+rows-again c = (omega arith, search needs, search (needs, cells-more))
 
 returns-2 : tie.Need-returns-2 Inv-loop μ-loop Inv-rows μ-rows
 returns-2 c = search (needs, moves-all)
 
 returns-3 : tie.Need-returns-3 Inv-loop μ-loop Inv-rows μ-rows
-returns-3 c =
-    let l = c .before .before .before .before .loop in
-    let r = c .before .before .before .before .before .before .before .rows in
-    let i = c .before .before .before .before .before .before .before .before .before .before .before in
-    move-hit (i .args .shape) (i .args .table .now) (i .args .pairs) (i .pre .0) (i .pre .2) (r .s) (l .e)
-    (c .before .before .before .before .before .before .rows-test .taken) (c .before .before .before .loop-test .taken) (c .before .before .before .before .before .banned .result) (c .before .before .before .before .before .banned .ensures)
-    (c .before .before .next .ensures) (c .before .contains .ensures) (r .inv .2) (l .inv .2) (c .if2 .taken)
+returns-3 c = search (needs, move-hit)
 
 pub moves-spec : {M : Type 1} → statement M
 moves-spec =

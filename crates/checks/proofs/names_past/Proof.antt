@@ -5,8 +5,6 @@ use native.Mathlib.Omega.{arith}
 use Rattle.checks.proofs.CheckLaws.{names-shifted, names-far}
 use Rattle.checks.proofs.names_past.Statement.{statement}
 use Rattle.checks.proofs.names_past.Tie as tie
-use Rattle.checks.proofs.names_past.Reads as reads
-use Rattle.checks.proofs.names_past.Lts as lts
 
 shr-result : tie.Need-shr-result
 shr-result c = search needs

@@ -4,8 +4,6 @@ use borrow.Author.Needs.{needs}
 use Rattle.checks.proofs.CheckLaws.{pair-used}
 use Rattle.checks.proofs.pair_at.Statement.{statement}
 use Rattle.checks.proofs.pair_at.Tie as tie
-use Rattle.checks.proofs.pair_at.Reads as reads
-use Rattle.checks.proofs.pair_at.Lts as lts
 
 mul-result : tie.Need-mul-result
 mul-result c = search needs

@@ -8,11 +8,6 @@ use Rattle.rulefile.proofs.PartsLaws.{SoundParts, sound-parts}
 use Rattle.rulefile.proofs.ReadingLaws.{read-refused, read-sound}
 use Rattle.reading.proofs.read.Statement.{statement}
 use Rattle.reading.proofs.read.Tie as tie
-use Rattle.reading.proofs.read.Reads as reads
-use Rattle.reading.proofs.read.Lts as lts
-use Rattle.octets.proofs.copy.Reads as copy-reads
-use Rattle.reading.proofs.unread.Reads as unread-reads
-use Rattle.rulefile.proofs.parts.Reads as parts-reads
 
 parts-requires : tie.Need-parts-requires
 parts-requires c κs = search needs

@@ -4,8 +4,6 @@ use mathlib.Core.Path.{refl}
 use Rattle.rule.specs.Drawing.{zeroRule}
 use Rattle.reading.proofs.unread.Statement.{statement}
 use Rattle.reading.proofs.unread.Tie as tie
-use Rattle.reading.proofs.unread.Reads as reads
-use Rattle.reading.proofs.unread.Lts as lts
 
 returns : tie.Need-returns
 unfolding zeroRule

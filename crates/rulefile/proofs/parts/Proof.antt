@@ -17,14 +17,6 @@ use Rattle.rulefile.specs.Layout.{trailerIn}
 use Rattle.rulefile.proofs.ReadingLaws.{cut, cut-order, tableBy, pairsBy, pairs-long, parts-refused, frame-wrong, trailer-is, head-wrong, headed, body-told, parts-sound}
 use Rattle.rulefile.proofs.parts.Statement.{statement}
 use Rattle.rulefile.proofs.parts.Tie as tie
-use Rattle.rulefile.proofs.parts.Reads as reads
-use Rattle.rulefile.proofs.parts.Lts as lts
-use Rattle.checks.proofs.checked.Reads as checked-reads
-use Rattle.trailer.proofs.framed.Reads as framed-reads
-use Rattle.trailer.proofs.headed.Reads as headed-reads
-use Rattle.rulefile.proofs.layout.pairs_of.Reads as pairs-of-reads
-use Rattle.rulefile.proofs.layout.refused.Reads as refused-reads
-use Rattle.rulefile.proofs.layout.trailer_of.Reads as trailer-of-reads
 
 framed-requires : tie.Need-framed-requires
 framed-requires c κs = search needs

@@ -5,8 +5,6 @@ use Rattle.trailer.proofs.HeadLaws.{tests}
 use Rattle.trailer.specs.Conditions.{framed}
 use Rattle.trailer.proofs.framed.Statement.{statement}
 use Rattle.trailer.proofs.framed.Tie as tie
-use Rattle.trailer.proofs.framed.Reads as reads
-use Rattle.trailer.proofs.framed.Lts as lts
 
 returns : tie.Need-returns
 unfolding framed

@@ -4,10 +4,6 @@ use borrow.Author.Needs.{needs}
 use Rattle.trailer.proofs.HeadLaws.{third-told, third-refused, third-sound}
 use Rattle.trailer.proofs.headed.Statement.{statement}
 use Rattle.trailer.proofs.headed.Tie as tie
-use Rattle.trailer.proofs.headed.Reads as reads
-use Rattle.trailer.proofs.headed.Lts as lts
-use Rattle.trailer.proofs.placed.Reads as placed-reads
-use Rattle.trailer.proofs.shaped.Reads as shaped-reads
 
 shaped-requires : tie.Need-shaped-requires
 shaped-requires c κs = search needs

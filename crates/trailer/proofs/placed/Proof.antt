@@ -7,8 +7,6 @@ use Rattle.trailer.proofs.HeadLaws.{tests}
 use Rattle.rule.proofs.ByteLaws.{bytes-mul}
 use Rattle.trailer.proofs.placed.Statement.{statement}
 use Rattle.trailer.proofs.placed.Tie as tie
-use Rattle.trailer.proofs.placed.Reads as reads
-use Rattle.trailer.proofs.placed.Lts as lts
 
 cast-pairs : tie.Need-cast-pairs
 cast-pairs c = search needs

@@ -8,10 +8,6 @@ use Rattle.octets.proofs.CopyLaws.{copied-whole}
 use Rattle.octets.proofs.ListLaws.{part-rest}
 use Rattle.writing.proofs.fill.Statement.{statement}
 use Rattle.writing.proofs.fill.Tie as tie
-use Rattle.writing.proofs.fill.Reads as reads
-use Rattle.writing.proofs.fill.Lts as lts
-use Rattle.octets.proofs.copy.Reads as copy-reads
-use Rattle.writing.proofs.put_end.Reads as put-end-reads
 
 copy-requires : tie.Need-copy-requires
 copy-requires c κs = search needs

@@ -5,9 +5,6 @@ use Rattle.trailer.proofs.HeadLaws.{third-told}
 use Rattle.rulefile.proofs.WritingLaws.{note-too-long, note-fits}
 use Rattle.writing.proofs.measured.Statement.{statement}
 use Rattle.writing.proofs.measured.Tie as tie
-use Rattle.writing.proofs.measured.Reads as reads
-use Rattle.writing.proofs.measured.Lts as lts
-use Rattle.trailer.proofs.shaped.Reads as shaped-reads
 
 shaped-requires : tie.Need-shaped-requires
 shaped-requires c κs = search needs

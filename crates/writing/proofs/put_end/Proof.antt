@@ -7,10 +7,6 @@ use Rattle.rulefile.specs.Layout.{pairsOut, trailerOut}
 use Rattle.rulefile.proofs.LayoutLaws.{length-pairsOut}
 use Rattle.writing.proofs.put_end.Statement.{statement}
 use Rattle.writing.proofs.put_end.Tie as tie
-use Rattle.writing.proofs.put_end.Reads as reads
-use Rattle.writing.proofs.put_end.Lts as lts
-use Rattle.writing.proofs.put_pairs.Reads as put-pairs-reads
-use Rattle.writing.proofs.put_trailer.Reads as put-trailer-reads
 
 cast-end : tie.Need-cast-end
 cast-end c = search needs

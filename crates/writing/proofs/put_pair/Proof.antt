@@ -12,9 +12,6 @@ use Rattle.octets.proofs.NumberLaws.{length-digits}
 use Rattle.octets.proofs.ListLaws.{part-length, part-last}
 use Rattle.writing.proofs.put_pair.Statement.{statement}
 use Rattle.writing.proofs.put_pair.Tie as tie
-use Rattle.writing.proofs.put_pair.Reads as reads
-use Rattle.writing.proofs.put_pair.Lts as lts
-use Rattle.octets.proofs.put_number.Reads as put-number-reads
 
 sub-put-number : tie.Need-sub-put-number
 sub-put-number c = search needs

@@ -14,9 +14,6 @@ use Rattle.rulefile.specs.Layout.{flatUpTo, pairsOut, pairOut}
 use Rattle.rulefile.proofs.LayoutLaws.{length-pairOut, length-pairsOut}
 use Rattle.writing.proofs.put_pairs.Statement.{statement}
 use Rattle.writing.proofs.put_pairs.Tie as tie
-use Rattle.writing.proofs.put_pairs.Reads as reads
-use Rattle.writing.proofs.put_pairs.Lts as lts
-use Rattle.writing.proofs.put_pair.Reads as put-pair-reads
 
 abbrev Inv-loop : tie.InvT-loop
 Inv-loop out₀ count pairs end i₀ out i = (i ≤ end) × (end ≡ count) × (out ≡ pairsOut pairs i ++ drop (16 * i) out₀) × (length out ≡ length out₀)

@@ -9,9 +9,6 @@ use Rattle.rule.proofs.ByteLaws.{bytes-mul}
 use Rattle.rulefile.specs.Layout.{trailerOut}
 use Rattle.writing.proofs.put_trailer.Statement.{statement}
 use Rattle.writing.proofs.put_trailer.Tie as tie
-use Rattle.writing.proofs.put_trailer.Reads as reads
-use Rattle.writing.proofs.put_trailer.Lts as lts
-use Rattle.octets.proofs.copy.Reads as copy-reads
 
 cast-pairs : tie.Need-cast-pairs
 cast-pairs c = search needs

@@ -1,7 +1,7 @@
 -- `writing::write` meets its contract: one law for each return.
 -- Assumes nothing.
 use borrow.Author.Needs.{needs}
-use Prim.Native.Nat.{_-_, _*_, _≤_}
+use Prim.Native.Nat.{_*_, _≤_}
 use mathlib.Core.Path.{_≡_, sym, _∙_}
 use native.Mathlib.Omega.{arith}
 use lib.ListN.{length}
@@ -14,12 +14,6 @@ use Rattle.rulefile.specs.Writing.{verdictOf}
 use Rattle.rulefile.proofs.WritingLaws.{put-refused, put-no-room, put-done, rule-unmeasured, Measured, measured, rule-told, sizeOf, length-written, rest-lent, all-written}
 use Rattle.writing.proofs.write.Statement.{statement}
 use Rattle.writing.proofs.write.Tie as tie
-use Rattle.writing.proofs.write.Reads as reads
-use Rattle.writing.proofs.write.Lts as lts
-use Rattle.octets.proofs.copy.Reads as copy-reads
-use Rattle.checks.proofs.checked.Reads as checked-reads
-use Rattle.writing.proofs.fill.Reads as fill-reads
-use Rattle.writing.proofs.measured.Reads as measured-reads
 
 measured-requires : tie.Need-measured-requires
 measured-requires c κs = search needs

@@ -13,9 +13,6 @@ use Rattle.rulefile.specs.Layout.{upTo, pairIn}
 use Rattle.rulefile.proofs.ListLaws.{length-upTo, padded-more}
 use Rattle.rulefile.proofs.layout.pairs_of.Statement.{statement}
 use Rattle.rulefile.proofs.layout.pairs_of.Tie as tie
-use Rattle.rulefile.proofs.layout.pairs_of.Reads as reads
-use Rattle.rulefile.proofs.layout.pairs_of.Lts as lts
-use Rattle.octets.proofs.number.Reads as number-reads
 
 -- the number that eight bytes are
 pair-number : (s : List ℕ) (a e : ℕ) → e ≡ a + 8 → {x : ℕ} → x ≡ valueOf (take 8 (take (e - a) (drop a s))) → x ≡ valueOf (take 8 (drop a s))

@@ -8,9 +8,6 @@ use Rattle.octets.proofs.NumberLaws.{valueOf-part}
 use Rattle.rulefile.specs.Layout.{trailerOf}
 use Rattle.rulefile.proofs.layout.trailer_of.Statement.{statement}
 use Rattle.rulefile.proofs.layout.trailer_of.Tie as tie
-use Rattle.rulefile.proofs.layout.trailer_of.Reads as reads
-use Rattle.rulefile.proofs.layout.trailer_of.Lts as lts
-use Rattle.octets.proofs.number.Reads as number-reads
 
 sub-number : tie.Need-sub-number
 sub-number c = search needs

@@ -1,0 +1,18 @@
+-- `classes::entering` meets its contract.
+-- Assumes nothing.
+use borrow.Author.Needs.{needs}
+use Rattle.classes.proofs.BanLaws.{into-inside, into-outside}
+use Rattle.classes.proofs.entering.Statement.{statement}
+use Rattle.classes.proofs.entering.Tie as tie
+
+contains-requires : tie.Need-contains-requires
+contains-requires c κs = search needs
+
+returns : tie.Need-returns
+returns c = search (needs, into-inside)
+
+returns-2 : tie.Need-returns-2
+returns-2 c = search (needs, into-outside)
+
+pub entering-spec : {M : Type 1} → statement M
+entering-spec = tie.close (tie.spec contains-requires returns returns-2)
