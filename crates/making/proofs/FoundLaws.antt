@@ -49,13 +49,6 @@ module _ (f : List ℕ) (p : Contents) (is : p ≡ partsOf f) where
     sound-is : verdictOn f ≡ Sound
     sound-is = sym (parts-verdict f is) ∙ sound
 
-    -- where the table stands
-    pub found-order : p .start ≤ p .end
-    found-order = omega (arith, parts .table-ends)
-
-    pub found-inside : p .end ≤ length f
-    found-inside = omega (arith, parts .pairs-end)
-
     size-is : p .end - p .start ≡ p .shape .states * p .shape .events
     size-is = omega (arith, parts .table-ends)
 

@@ -88,26 +88,16 @@ text-short f =
     rw (text-sound f v) (monitor-short (drawingIn f) (well-in f s) (rw (shape-drawn f s) (s .ranged .events-in))))
     (λ r v. rw (text-refused f v) (omega (arith, refusal-short (toldOf r))))
 
--- ---- the promise, for each way through the code
-
-pub no-room : (f out : List ℕ) → length out < 32768 → PrintPromise f out (Refused NoRoom) out
-no-room f out h = record { answer = rw (lt-leb 32768 (length out) h); output = rw (lt-leb 32768 (length out) h) }
-
--- where the text is put from the front on
-all-put : (f out : List ℕ) {next : ℕ} {out′ : List ℕ} → 32768 ≤ length out → Put out 0 (textOf f) next out′ → PrintPromise f out (Done next) out′
-unfolding pasted
-all-put f out h p =
-    let z : 0 + length (textOf f) ≡ length (textOf f) = omega arith in
-    record { answer = rw (le-leb 32768 (length out) h) (ap Done (p .place ∙ z)); output = rw (le-leb 32768 (length out) h) (rw z at (p .output)) }
+-- ---- the text, for each way through the code
 
 -- a refusal
 pub refusal-room : (out : List ℕ) (t : Told) → 32768 ≤ length out → Room out 0 (refusalLine t)
 refusal-room out t h = omega (arith, refusal-short t)
 
 module _ (f : List ℕ) {c : Contents} (is : c ≡ partsOf f) where
-  pub refusal-put : {out out′ : List ℕ} {r : Refusal} {t : Told} {next : ℕ} → 32768 ≤ length out → c .verdict ≡ Unsound r → t ≡ toldOf r
-      → Put out 0 (refusalLine t) next out′ → PrintPromise f out (Done next) out′
-  refusal-put h v e p = all-put f _ h (rw (text-refused f (sym (parts-verdict f is) ∙ v), ← e) p)
+  pub refusal-put : {out out′ : List ℕ} {r : Refusal} {t : Told} {next : ℕ} → c .verdict ≡ Unsound r → t ≡ toldOf r
+      → Put out 0 (refusalLine t) next out′ → Put out 0 (textOf f) next out′
+  refusal-put v e p = rw (text-refused f (sym (parts-verdict f is) ∙ v), ← e) p
 
   -- the monitor
   module _ (v : c .verdict ≡ Sound) where
@@ -116,12 +106,6 @@ module _ (f : List ℕ) {c : Contents} (is : c ≡ partsOf f) where
 
     has : SoundParts f c
     has = sound-parts f is v
-
-    pub table-start : c .start ≤ c .end
-    table-start = omega (arith, has .table-ends)
-
-    pub table-end : c .end ≤ length f
-    table-end = omega (arith, has .pairs-end)
 
     abbrev drawing : Drawing
     drawing = body (c .shape) (take (c .end - c .start) (drop (c .start) f)) (c .pairs)
@@ -138,8 +122,20 @@ module _ (f : List ℕ) {c : Contents} (is : c ≡ partsOf f) where
     pub monitor-room : (out : List ℕ) → 32768 ≤ length out → Room out 0 (monitorText drawing)
     monitor-room out h = rw (← text-is) (omega (arith, text-short f))
 
-    pub monitor-put : {out out′ : List ℕ} {next : ℕ} → 32768 ≤ length out → Put out 0 (monitorText drawing) next out′ → PrintPromise f out (Done next) out′
-    monitor-put h p = all-put f _ h (rw text-is p)
+    pub monitor-put : {out out′ : List ℕ} {next : ℕ} → Put out 0 (monitorText drawing) next out′ → Put out 0 (textOf f) next out′
+    monitor-put p = rw text-is p
+
+-- ---- the promise
+
+pub no-room : (f out : List ℕ) → length out < 32768 → PrintPromise f out (Refused NoRoom) out
+no-room f out h = record { answer = rw (lt-leb 32768 (length out) h); output = rw (lt-leb 32768 (length out) h) }
+
+-- the text is put from the front on
+pub all-put : (f out : List ℕ) {next : ℕ} {out′ : List ℕ} → 32768 ≤ length out → Put out 0 (textOf f) next out′ → PrintPromise f out (Done next) out′
+unfolding pasted
+all-put f out h p =
+    let z : 0 + length (textOf f) ≡ length (textOf f) = omega arith in
+    record { answer = rw (le-leb 32768 (length out) h) (ap Done (p .place ∙ z)); output = rw (le-leb 32768 (length out) h) (rw z at (p .output)) }
 
 -- what was put lies within the output
 pub done-fits : {f out : List ℕ} {w : Written} {size : ℕ} {out′ : List ℕ} → PrintPromise f out w out′ → w ≡ Done size → size ≤ length out

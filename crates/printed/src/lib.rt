@@ -1,8 +1,10 @@
 // The printed monitor: the text that the program `table` writes for a rule file (document 01, "The printed monitor").
+ghost use Prim.Native.Nat.{_≤_};
+ghost use lib.ListN.{length};
 ghost use Rattle.rule.specs.Drawing.{body};
 ghost use Rattle.rule.specs.WellDrawn.{WellDrawn};
 ghost use Rattle.printed.specs.Placing.{Room, Put};
-ghost use Rattle.printed.specs.Printing.{monitorText, PrintPromise};
+ghost use Rattle.printed.specs.Printing.{monitorText, textOf, PrintPromise};
 
 mod lines;
 mod text;
@@ -25,6 +27,23 @@ fn put_monitor(out: &mut [u8], shape: Shape, table: &[u8], pairs: [Pair; 8]) -> 
     lines::put_stop_line(out, stop, shape.states, operations)
 }
 
+// Prints the text of a rule file, its monitor or its refusal, to the front of an output that has room for any text.
+fn put_text(file: &[u8], out: &mut [u8]) -> usize
+    requires { ⌜ 32768 ≤ length (now out) ⌝ }
+    ensures { λ r. ⌜ Put (now (out .entry)) 0 (textOf (now (file .entry))) r (now (out .exit)) ⌝ }
+{
+    let parts = rulefile::parts(file);
+    let verdict = parts.verdict;
+    if let Verdict::Refused(refusal) = verdict {
+        return lines::put_refusal(out, 0, refusal.told());
+    }
+    let shape = parts.shape;
+    let pairs = parts.pairs;
+    let start = parts.start;
+    let end = parts.end;
+    put_monitor(out, shape, &file[start..end], pairs)
+}
+
 // Prints a rule file's monitor, or its refusal, to the front of the output. An output under 32,768 bytes is refused 16.
 pub fn print(file: &[u8], out: &mut [u8]) -> Written
     ensures { λ r. ⌜ PrintPromise (now (file .entry)) (now (out .entry)) r (now (out .exit)) ⌝ }
@@ -32,14 +51,5 @@ pub fn print(file: &[u8], out: &mut [u8]) -> Written
     if out.len() < 32768 {
         return Written::Refused(Refusal::Room);
     }
-    let parts = rulefile::parts(file);
-    let verdict = parts.verdict;
-    if let Verdict::Refused(refusal) = verdict {
-        return Written::Done(lines::put_refusal(out, 0, refusal.told()));
-    }
-    let shape = parts.shape;
-    let pairs = parts.pairs;
-    let start = parts.start;
-    let end = parts.end;
-    Written::Done(put_monitor(out, shape, &file[start..end], pairs))
+    Written::Done(put_text(file, out))
 }

@@ -152,3 +152,11 @@ pub sound-parts : (f : List ℕ) {p : Contents} → p ≡ partsOf f → p .verdi
 sound-parts f e v =
     let s = sym (parts-verdict f e) ∙ v in
     subst⁻¹ (λ (p : Contents). SoundParts f p) (e ∙ parts-of-sound f s) (parts-all f (sound-file f s))
+
+-- where its table stands
+module _ (f : List ℕ) {p : Contents} (is : p ≡ partsOf f) (v : p .verdict ≡ Sound) where
+  pub table-order : p .start ≤ p .end
+  table-order = omega (arith, sound-parts f is v .table-ends)
+
+  pub table-inside : p .end ≤ length f
+  table-inside = omega (arith, sound-parts f is v .pairs-end)

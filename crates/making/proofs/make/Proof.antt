@@ -1,7 +1,8 @@
 -- `make` meets its contract: a refusal of the file, too little room, or the sheet of its drawing. Assumes nothing.
 use mathlib.Core.Path.{sym}
 use lib.Seq.{length-take-le}
-use Rattle.making.proofs.FoundLaws.{found-order, found-inside, found-few, found-low, found-fits, found-room, made-refused, made-room, made}
+use Rattle.rulefile.proofs.PartsLaws.{table-order, table-inside}
+use Rattle.making.proofs.FoundLaws.{found-few, found-low, found-fits, found-room, made-refused, made-room, made}
 use borrow.Author.Needs.{needs}
 use Rattle.making.proofs.make.Statement.{statement}
 use Rattle.making.proofs.make.Tie as tie
@@ -19,7 +20,7 @@ enum-told : tie.Need-enum-told
 enum-told c = search needs
 
 sub-size : tie.Need-sub-size
-sub-size c = search (needs, found-order)
+sub-size c = search (needs, table-order)
 
 add-size : tie.Need-add-size
 add-size c = search (needs, found-fits)
@@ -34,13 +35,13 @@ slice-aggregate-put : tie.Need-slice-aggregate-put
 slice-aggregate-put c = sym (length-take-le _ _ (search needs))
 
 sub-put : tie.Need-sub-put
-sub-put c = search (needs, found-order)
+sub-put c = search (needs, table-order)
 
 part-put-start : tie.Need-part-put-start
-part-put-start c = search (needs, found-order)
+part-put-start c = search (needs, table-order)
 
 part-put-end : tie.Need-part-put-end
-part-put-end c = search (needs, found-inside)
+part-put-end c = search (needs, table-inside)
 
 put-requires : tie.Need-put-requires
 put-requires c κs = (search (needs, found-few), search (needs, found-low), search (needs, found-room))
