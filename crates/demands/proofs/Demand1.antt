@@ -7,7 +7,7 @@
 use Prim.Native.Nat.{ℕ}
 use mathlib.Core.Path.{_≡_, sym}
 use mathlib.Core.Logic.{_⊎_}
-use mathlib.Core.List.{List, [], _∷_}
+use mathlib.Core.List.{List, []}
 use Rattle.rule.specs.Drawing.{drawn, stateNo, zeroRule}
 use Rattle.rule.specs.Refusals.{Numbered, firstOf}
 use Rattle.rule.specs.declared.StateNo.{StateNo}
@@ -20,7 +20,7 @@ use Rattle.rule.specs.declared.Refusal.the-variants.{Sheet as NoSheet, Memory, 
 use Rattle.rule.specs.declared.Verdict.the-variants.{Refused as Unsound}
 use Rattle.checks.specs.Checked.{checkedOf}
 use Rattle.checks.proofs.HeldLaws.{checked-gives}
-use Rattle.trailer.specs.Conditions.{class, range, distance}
+use Rattle.trailer.specs.Conditions.{shapeConditions, headConditions}
 use Rattle.trailer.specs.declared.Trailer.{Trailer}
 use Rattle.trailer.proofs.NumberLaws.{shape-gives, head-gives}
 use Rattle.rulefile.specs.Layout.{drawingIn, fileOf}
@@ -47,9 +47,9 @@ use Rattle.office.proofs.RefusedLaws.{make-kept, event-kept}
 pub record Demand1 : Type 0 where
   -- looking at a rule file: 1 to 10, and 0 in every place; its checks alone: 2 and 3 of a shape, 2 to 4 of a trailer, 3 to 10 of a table and pairs
   pub look : (f : List ℕ) (x : Refusal) → partsOf f .verdict ≡ Unsound x → Numbered 1 10 x × (partsOf f ≡ partsBy (Unsound x) [])
-  pub shape : (s : Shape) (spare : ℕ) (x : Refusal) → firstOf (class s ∷ range s spare ∷ []) ≡ Unsound x → Numbered 2 3 x
+  pub shape : (s : Shape) (spare : ℕ) (x : Refusal) → firstOf (shapeConditions s spare) ≡ Unsound x → Numbered 2 3 x
   pub head : (t : Trailer) (size : ℕ) (x : Refusal)
-      → firstOf (class (t .shape) ∷ range (t .shape) (t .spare) ∷ distance t size ∷ []) ≡ Unsound x → Numbered 2 4 x
+      → firstOf (headConditions t size) ≡ Unsound x → Numbered 2 4 x
   pub check : (s : Shape) (table : List ℕ) (pairs : List Pair) (x : Refusal) → checkedOf s table pairs ≡ Unsound x → Numbered 3 10 x
   -- reading: 1 to 10, and a rule with 0 in every place
   pub read : (f : List ℕ) (x : Refusal) → readingOf f .verdict ≡ Unsound x → Numbered 1 10 x × (readingOf f .rule ≡ zeroRule)

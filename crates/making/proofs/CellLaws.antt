@@ -5,7 +5,7 @@ use native.Mathlib.Omega.{arith}
 use native.Mathlib.Numerals.{add-one}
 use mathlib.Core.Path.{_≡_, refl, sym, ap, _∙_}
 use mathlib.Core.List.{List, [], _∷_, _++_, map, append-nil}
-use lib.ListN.{length, getD, take, drop, set, replicate, length-map, drop-of-length-le}
+use lib.ListN.{length, getD, take, drop, set, replicate, length-append, length-map, drop-of-length-le}
 use lib.Seq.{take-suc, take-all, length-take-le}
 use borrow.Rule.Slice.PartMut.{putMid}
 use mir.Val.{Fits}
@@ -13,7 +13,7 @@ use mir.Syntax.{w8, w64}
 use Rattle.octets.specs.Numbers.{digits}
 use Rattle.octets.specs.Copies.{copied}
 use Rattle.octets.proofs.CopyLaws.{copied-full}
-use Rattle.octets.proofs.ListLaws.{store-more, part-rest}
+use Rattle.octets.proofs.ListLaws.{store-more, part-more}
 use Rattle.rule.specs.Drawing.{body}
 use Rattle.rule.specs.Operations.{markOf, operationAt, operationsOf}
 use Rattle.rule.specs.declared.Operation.{Operation}
@@ -21,6 +21,11 @@ use Rattle.rule.specs.declared.Operation.the-variants.{Halt, Store, Dump}
 use Rattle.rule.specs.declared.Pair.{Pair}
 use Rattle.rule.specs.declared.Shape.{Shape}
 use Rattle.rule.proofs.ArrayLaws.{filled-at}
+use Rattle.rule.specs.declared.Refusal.the-variants.{Room}
+use Rattle.rule.specs.declared.Verdict.the-variants.{Sound}
+use Rattle.rulefile.specs.Writing.{PutPromise}
+use Rattle.rulefile.specs.declared.Written.the-variants.{Done, Refused}
+use Rattle.rulefile.proofs.WritingLaws.{put-no-room, put-done}
 use Rattle.making.specs.Making.{cellAt, endOf, sheetOf}
 
 -- an operation's number is at most 2, and 64 times it is a byte
@@ -77,16 +82,39 @@ map-below : (n : ℕ) (f g : ℕ → ℕ) → ((t : ℕ) → t < n → f t ≡ g
 map-below n f g e [] low = refl
 map-below n f g e (x ∷ l) low = rw (e x (low zero), map-below n f g e l (λ i. low (suc i)))
 
--- the whole sheet
-pub put-written : (h : Shape) (table : List ℕ) (pairs : List Pair) (out front end : List ℕ) (operations : List Operation)
-    → h .states ≤ 64 → ((i : ℕ) → getD table i 0 < h .states) → operations ≡ operationsOf (body h table pairs)
-    → front ≡ map (withMark operations) table → end ≡ endOf h
-    → putMid (length table) (length (front ++ drop (length table) out) - length table) (front ++ drop (length table) out) end ≡ sheetOf (body h table pairs)
-unfolding sheetOf
-put-written h table pairs out front end operations few low is-operations is-front is-end =
-    let d = body h table pairs in
-    let q : front ≡ map (cellAt d) table =
-    is-front
-    ∙ map-below (h .states) (withMark operations) (cellAt d) (λ t b. rw (is-operations, filled-at (operationAt d) (replicate 64 Halt) (h .states) t Halt b (omega arith))) table low in
-    let n : length front ≡ length table = rw q (length-map table (cellAt d)) in
-    part-rest front end (drop (length table) out) (length table) n ∙ rw (q, is-end)
+-- what is lent for the cells, and that each next state is one of 64
+pub cells-lent : (table out : List ℕ) → length table + 6 ≤ length out → length (take (length table) out) ≡ length table
+cells-lent table out room = length-take-le (length table) out (omega arith)
+
+pub lent-cells : (table out : List ℕ) → length table + 6 ≤ length out → length table ≡ length (take (length table) out)
+lent-cells table out room = sym (cells-lent table out room)
+
+pub low-64 : (table : List ℕ) (n : ℕ) → n ≤ 64 → ((i : ℕ) → getD table i 0 < n) → (i : ℕ) → getD table i 0 < 64
+low-64 table n few low i = omega (arith, low i)
+
+-- the whole sheet: no room, or put at the front of the output
+module _ (h : Shape) (table : List ℕ) (pairs : List Pair) (out : List ℕ) where
+  sheet-size : length table + 6 ≡ length (sheetOf (body h table pairs))
+  unfolding sheetOf digits
+  sheet-size = sym (length-append (map (cellAt (body h table pairs)) table) (endOf h) ∙ rw length-map)
+
+  pub sheet-no-room : length out < length table + 6 → PutPromise Sound (sheetOf (body h table pairs)) out (Refused Room) out
+  sheet-no-room l = put-no-room refl (rw sheet-size at l)
+
+  pub sheet-put : {operations : List Operation} {front end : List ℕ} → h .states ≤ 64 → ((i : ℕ) → getD table i 0 < h .states)
+      → length table + 6 ≤ length out → operations ≡ operationsOf (body h table pairs) → front ≡ map (withMark operations) table → end ≡ endOf h
+      → PutPromise Sound (sheetOf (body h table pairs)) out (Done (length table + 6))
+      (putMid (length table) (length table + 6 - length table) (front ++ drop (length table) out) end)
+  unfolding sheetOf digits
+  sheet-put {operations} {front} {end} few low room is-operations is-front is-end =
+      let d = body h table pairs in
+      let q : front ≡ map (cellAt d) table =
+      is-front
+      ∙ map-below (h .states) (withMark operations) (cellAt d) (λ t b. rw (is-operations, filled-at (operationAt d) (replicate 64 Halt) (h .states) t Halt b (omega arith))) table low in
+      let n : length front ≡ length table = rw q (length-map table (cellAt d)) in
+      let six : length (endOf h) ≡ length table + 6 - length table = omega arith in
+      put-done refl sheet-size room
+      (rw (q, is-end) (part-more (map (cellAt d) table) (endOf h) out (length table) (length table + 6 - length table) (rw (← q) n) six ∙ rw (end-at (length table))))
+    where
+      end-at : (n : ℕ) → n + (n + 6 - n) ≡ n + 6
+      end-at n = omega arith

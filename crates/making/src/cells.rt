@@ -6,11 +6,15 @@ ghost use lib.ListN.{length, getD};
 ghost use Rattle.rule.specs.Drawing.{body};
 ghost use Rattle.rule.specs.Operations.{markOf};
 ghost use Rattle.rule.specs.declared.Operation.the-variants.{Halt};
+ghost use Rattle.rule.specs.declared.Verdict.the-variants.{Sound};
+ghost use Rattle.rulefile.specs.Writing.{PutPromise};
 ghost use Rattle.making.specs.Making.{endOf, sheetOf};
 use operations::into_states;
 use rule::Operation;
 use rule::Pair;
+use rule::Refusal;
 use rule::Shape;
+use rulefile::Written;
 
 // The cells: next state + 64 * operation of a move into it.
 fn put_cells(out: &mut [u8], table: &[u8], operations: [Operation; 64])
@@ -43,13 +47,18 @@ fn put_end(out: &mut [u8], shape: Shape)
     octets::copy(&bytes, out);
 }
 
-// Fills a slice with the sheet of a rule.
-pub(crate) fn put(out: &mut [u8], table: &[u8], shape: Shape, pairs: [Pair; 8])
-    requires { ⌜ (shape .states ≤ 64) × ((i : ℕ) → getD (now table) i 0 < shape .states) × (length (now out) ≡ length (now table) + 6) ⌝ }
-    ensures { λ _. ⌜ now (out .exit) ≡ sheetOf (body shape (now (table .entry)) pairs) ⌝ }
+// Puts the sheet of a rule to the front of the output: refusal 16.
+pub(crate) fn put(out: &mut [u8], table: &[u8], shape: Shape, pairs: [Pair; 8]) -> Written
+    requires { ⌜ (shape .states ≤ 64) × ((i : ℕ) → getD (now table) i 0 < shape .states) × (length (now table) ≤ 2048) ⌝ }
+    ensures { λ r. ⌜ PutPromise Sound (sheetOf (body shape (now (table .entry)) pairs)) (now (out .entry)) r (now (out .exit)) ⌝ }
 {
     let count = table.len();
+    let size = count + 6;
+    if out.len() < size {
+        return Written::Refused(Refusal::Room);
+    }
     let operations = into_states(shape, table, pairs);
     put_cells(&mut out[..count], table, operations);
-    put_end(&mut out[count..], shape);
+    put_end(&mut out[count..size], shape);
+    Written::Done(size)
 }

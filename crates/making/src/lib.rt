@@ -3,7 +3,6 @@ ghost use Rattle.making.specs.Making.{MakePromise};
 
 mod cells;
 
-use rule::Refusal;
 use rule::Verdict;
 use rulefile::Written;
 
@@ -20,10 +19,5 @@ pub fn make(file: &[u8], out: &mut [u8]) -> Written
     let pairs = parts.pairs;
     let start = parts.start;
     let end = parts.end;
-    let size = end - start + 6;
-    if out.len() < size {
-        return Written::Refused(Refusal::Room);
-    }
-    cells::put(&mut out[..size], &file[start..end], shape, pairs);
-    Written::Done(size)
+    cells::put(out, &file[start..end], shape, pairs)
 }

@@ -2,7 +2,7 @@
 -- Assumes nothing.
 use Prim.Native.Nat.{ℕ, _*_, _≤_}
 use mathlib.Core.Path.{_≡_, refl}
-use mathlib.Core.List.{List, [], _∷_, _++_}
+use mathlib.Core.List.{List, _++_}
 use lib.ListN.{length}
 use lib.Seq.{length-take-le}
 use borrow.Author.Tests.{le-leb}
@@ -15,7 +15,7 @@ use Rattle.rule.proofs.RefusalLaws.{first-append, else-sound}
 use Rattle.trailer.specs.Conditions.{class, range}
 use Rattle.trailer.proofs.SoundLaws.{Classed, classed-says, Ranged, ranged-says, cells-in}
 use Rattle.rulefile.specs.Layout.{drawingIn}
-use Rattle.rulefile.specs.Writing.{verdictOf, noted, Held}
+use Rattle.rulefile.specs.Writing.{measureConditions, verdictOf, Held}
 use Rattle.rulefile.proofs.ListLaws.{length-padded, take-padded}
 use Rattle.rulefile.proofs.PartsLaws.{SoundFile, shape-drawn, note-drawn}
 use Rattle.rulefile.proofs.WritingLaws.{measured-sound}
@@ -50,7 +50,7 @@ file-drawing f s =
 pub rule-drawing : (r : Rule) → Held r → verdictOf r ≡ Sound → SoundDrawing (drawn r)
 unfolding drawn verdictOf
 rule-drawing r h e =
-    let p = append-sound (class (r .shape) ∷ range (r .shape) 0 ∷ noted (r .length) ∷ []) (conditions (drawn r)) e in
+    let p = append-sound (measureConditions (r .shape) (r .length)) (conditions (drawn r)) e in
     let m = measured-sound (r .shape) (r .length) (p .0) in
     record {
       class = m .classed;

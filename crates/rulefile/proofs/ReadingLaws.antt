@@ -1,7 +1,7 @@
 -- Laws of reading: what looking at a file comes to, return by return.
 -- Assumes nothing.
 use mathlib.Core.Path.{_≡_, sym, ap, _∙_}
-use mathlib.Core.List.{List, [], _∷_}
+use mathlib.Core.List.{List, [], _++_}
 use mathlib.Core.Bool.{Bool, true, false, not}
 use Prim.Native.Nat.{ℕ, _-_, _*_, _≤_}
 use native.Mathlib.Omega.{arith}
@@ -17,14 +17,16 @@ use Rattle.rule.specs.declared.Refusal.{Refusal}
 use Rattle.rule.specs.declared.Refusal.the-variants.{Frame}
 use Rattle.rule.specs.declared.Verdict.{Verdict}
 use Rattle.rule.specs.declared.Verdict.the-variants.{Sound, Refused}
-use Rattle.trailer.specs.Conditions.{framed, frame, class, range, distance, tableBack}
+use Rattle.trailer.specs.Conditions.{framed, frame, tableBack, headConditions}
 use Rattle.trailer.specs.declared.Trailer.{Trailer}
-use Rattle.trailer.proofs.SoundLaws.{Headed, Placed, headed-sound, cells-in}
+use Rattle.trailer.proofs.SoundLaws.{framed-says, Headed, Placed, headed-sound, cells-in}
 use Rattle.rulefile.specs.Layout.{trailerOf, trailerIn, pairIn, pairBytes, upTo, drawingIn}
 use Rattle.rulefile.specs.Reading.{verdictOn, partsBy, partsOf, readingBy, readingOf}
 use Rattle.rulefile.specs.declared.Contents.{Contents}
 use Rattle.rulefile.specs.declared.Reading.{Reading}
+use Rattle.checks.specs.Checked.{checkedOf}
 use Rattle.checks.proofs.CheckLaws.{conditions-note}
+use Rattle.checks.proofs.HeldLaws.{in-range}
 use Rattle.rulefile.proofs.ListLaws.{length-upTo, take-padded, copied-padded}
 use Rattle.rulefile.proofs.PartsLaws.{sound-parts, parts-verdict}
 
@@ -44,14 +46,14 @@ abbrev pub pairsBy : List ℕ → Trailer → List Pair
 pairsBy f t = padded 8 noPair (upTo (pairIn (take (length f - 12 - (length f - t .pairs)) (drop (length f - t .pairs) f))) (t .shape .pairs))
 
 -- the distances of a trailer that was found right
-pub record Cut (t : Trailer) (size : ℕ) : Type 0 where
+record Cut (t : Trailer) (size : ℕ) : Type 0 where
   pub trailer-in : 12 ≤ t .pairs
   pub pairs-in : t .pairs ≤ t .table
   pub table-in : t .table ≤ size
   pub pair-bytes : t .pairs - 12 ≡ 16 * t .shape .pairs
   pub cells : t .table - t .pairs ≡ t .shape .states * t .shape .events
 
-pub cut : (t : Trailer) (size : ℕ) → Placed t size → Cut t size
+cut : (t : Trailer) (size : ℕ) → Placed t size → Cut t size
 cut t size h =
     let p = h .pairs-is in
     let e = h .table-is in
@@ -64,25 +66,18 @@ cut t size h =
       cells = omega arith;
     }
 
--- the table stands before the pairs
-pub cut-order : (t : Trailer) (size : ℕ) → Placed t size → size - t .table ≤ size - t .pairs
-cut-order t size h = order size (t .table) (t .pairs) (cut t size h .pairs-in)
-  where
-    order : (n a b : ℕ) → b ≤ a → n - a ≤ n - b
-    order n a b l = omega arith
-
 module _ (f : List ℕ) (t : Trailer) (h : Placed t (length f)) where
-  pub table-cut : tableBy f t ≡ take (t .shape .states * t .shape .events) (drop (length f - tableBack (t .shape)) f)
+  table-cut : tableBy f t ≡ take (t .shape .states * t .shape .events) (drop (length f - tableBack (t .shape)) f)
   table-cut =
       let z = cut t (length f) h in
       rw (gap (length f) (t .table) (t .pairs) (z .pairs-in) (z .table-in), z .cells, h .table-is)
 
-  pub pairs-cut : pairsBy f t ≡ padded 8 noPair (upTo (pairIn (pairBytes (t .shape) f)) (t .shape .pairs))
+  pairs-cut : pairsBy f t ≡ padded 8 noPair (upTo (pairIn (pairBytes (t .shape) f)) (t .shape .pairs))
   pairs-cut =
       let z = cut t (length f) h in
       rw (gap (length f) (t .pairs) 12 (z .trailer-in) (omega arith), z .pair-bytes, h .pairs-is)
 
-  pub pairs-long : length (take (length f - 12 - (length f - t .pairs)) (drop (length f - t .pairs) f)) ≡ 16 * t .shape .pairs
+  pairs-long : length (take (length f - 12 - (length f - t .pairs)) (drop (length f - t .pairs) f)) ≡ 16 * t .shape .pairs
   pairs-long =
       let z = cut t (length f) h in
       part-length (length f - t .pairs) (length f - 12) f (omega arith)
@@ -95,56 +90,90 @@ unfolding partsOf
 parts-refused f v e = rw v e
 
 -- 1
-pub frame-wrong : (f : List ℕ) {ok : Bool} → ok ≡ framed f → not ok ≡ true → verdictOn f ≡ Refused Frame
+pub frame-wrong : (f : List ℕ) {ok : Bool} {p : Contents} → ok ≡ framed f → not ok ≡ true → p ≡ partsBy (Refused Frame) [] → p ≡ partsOf f
 unfolding verdictOn
-frame-wrong f {ok} is h = first-hit (frame f) _ Frame (rw (← is, not-true ok h))
+frame-wrong f {ok} is h = parts-refused f (first-hit (frame f) _ Frame (rw (← is, not-true ok h)))
+
+module _ (f : List ℕ) {ok : Bool} (is : ok ≡ framed f) (right : not ok ≡ false) where
+  pub frame-long : 12 ≤ length f
+  frame-long = framed-says f .0 (sym is ∙ not-false ok right) .long
+
+  pub trailer-long : length (take (length f - (length f - 12)) (drop (length f - 12) f)) ≡ 12
+  trailer-long = part-length (length f - 12) (length f) f (omega arith) ∙ omega (arith, frame-long)
 
 -- the trailer that was looked at
-pub trailer-is : (f : List ℕ) {t : Trailer} → t ≡ trailerOf (take (length f - (length f - 12)) (drop (length f - 12) f)) → t ≡ trailerIn f
+trailer-is : (f : List ℕ) {t : Trailer} → t ≡ trailerOf (take (length f - (length f - 12)) (drop (length f - 12) f)) → t ≡ trailerIn f
 trailer-is f e = e ∙ ap trailerOf (tail-part (length f - 12) f)
 
-module _ (f : List ℕ) {ok : Bool} (is : ok ≡ framed f) (right : not ok ≡ false) {t : Trailer} (at : t ≡ trailerIn f)
-    {v : Verdict} (head : v ≡ firstOf (class (t .shape) ∷ range (t .shape) (t .spare) ∷ distance t (length f) ∷ [])) where
-  past-frame : verdictOn f ≡ firstOf (class (t .shape) ∷ range (t .shape) (t .spare) ∷ distance t (length f) ∷ conditions (drawingIn f))
+module _ (f : List ℕ) {ok : Bool} (is : ok ≡ framed f) (right : not ok ≡ false)
+    {t : Trailer} (looked-at : t ≡ trailerOf (take (length f - (length f - 12)) (drop (length f - 12) f)))
+    {v : Verdict} (head : v ≡ firstOf (headConditions t (length f))) where
+  past-frame : verdictOn f ≡ firstOf (headConditions t (length f) ++ conditions (drawingIn f))
   unfolding verdictOn
-  past-frame = rw at (first-more (frame f) _ (rw (← is, not-false ok right)))
+  past-frame = rw (trailer-is f looked-at) (first-more (frame f) _ (rw (← is, not-false ok right)))
 
   -- 2 to 4
-  pub head-wrong : {r : Refusal} → v ≡ Refused r → verdictOn f ≡ Refused r
-  head-wrong {r} e =
-      past-frame
-      ∙ append-hit (class (t .shape) ∷ range (t .shape) (t .spare) ∷ distance t (length f) ∷ []) (conditions (drawingIn f)) r (sym head ∙ e)
+  pub head-wrong : {r : Refusal} {p : Contents} → v ≡ Refused r → p ≡ partsBy (Refused r) [] → p ≡ partsOf f
+  head-wrong {r} e = parts-refused f (past-frame ∙ append-hit (headConditions t (length f)) (conditions (drawingIn f)) r (sym head ∙ e))
 
+  -- 5 to 10
   module _ (sound : v ≡ Sound) where
     past-head : verdictOn f ≡ firstOf (conditions (drawingIn f))
-    past-head =
-        past-frame
-        ∙ append-more (class (t .shape) ∷ range (t .shape) (t .spare) ∷ distance t (length f) ∷ []) (conditions (drawingIn f)) (sym head ∙ sound)
+    past-head = past-frame ∙ append-more (headConditions t (length f)) (conditions (drawingIn f)) (sym head ∙ sound)
 
-    pub headed : Headed t (length f)
+    headed : Headed t (length f)
     headed = headed-sound t (length f) (sym head ∙ sound)
 
-    -- the checks 5 to 10 of what was cut off are those of what is drawn
-    pub body-conditions : conditions (body (t .shape) (tableBy f t) (pairsBy f t)) ≡ conditions (drawingIn f)
+    distances : Cut t (length f)
+    distances = cut t (length f) (headed .placed)
+
+    -- table, pairs and trailer stand one after the other
+    pub table-in-file : t .table ≤ length f
+    table-in-file = distances .table-in
+
+    pub pairs-in-file : t .pairs ≤ length f
+    pairs-in-file = omega (arith, distances .pairs-in, distances .table-in)
+
+    pub table-before-pairs : length f - t .table ≤ length f - t .pairs
+    table-before-pairs = order (length f) (t .table) (t .pairs) (distances .pairs-in)
+      where
+        order : (n a b : ℕ) → b ≤ a → n - a ≤ n - b
+        order n a b l = omega arith
+
+    pub pairs-before-trailer : length f - t .pairs ≤ length f - 12
+    pairs-before-trailer = omega (arith, distances .trailer-in)
+
+    pub pairs-few : t .shape .pairs ≤ 8
+    pairs-few = headed .ranged .pairs-in
+
+    pub pairs-whole : length (take (length f - 12 - (length f - t .pairs)) (drop (length f - t .pairs) f)) ≡ 16 * t .shape .pairs
+    pairs-whole = pairs-long f t (headed .placed)
+
+    -- the checks of what was cut off are those of what is drawn
+    body-conditions : conditions (body (t .shape) (tableBy f t) (pairsBy f t)) ≡ conditions (drawingIn f)
     unfolding drawingIn
     body-conditions =
         let h = headed .placed in
         let m = t .shape .pairs in
         let ps = upTo (pairIn (pairBytes (t .shape) f)) m in
-        rw (table-cut f t h, pairs-cut f t h, take-padded 8 noPair ps m (length-upTo _ m), ← at)
+        rw (table-cut f t h, pairs-cut f t h, take-padded 8 noPair ps m (length-upTo _ m), ← trailer-is f looked-at)
         (sym (conditions-note (t .shape) _ _ ps))
 
-    module _ {w : Verdict} (checked : w ≡ firstOf (conditions (body (t .shape) (tableBy f t) (pairsBy f t)))) where
-      -- 5 to 10
+    module _ {ps : List Pair} (cut-off : ps ≡ pairsBy f t) {w : Verdict} (checked : w ≡ checkedOf (t .shape) (tableBy f t) ps) where
       pub body-told : w ≡ verdictOn f
-      body-told = checked ∙ ap firstOf body-conditions ∙ sym past-head
+      body-told =
+          let g = headed .ranged in
+          checked
+          ∙ in-range (t .shape) (tableBy f t) ps (g .states-in) (g .some-pairs) (g .pairs-in)
+          ∙ rw cut-off (ap firstOf body-conditions)
+          ∙ sym past-head
 
-      pub parts-sound : w ≡ Sound
-          → record { verdict = w; shape = t .shape; start = length f - t .table; end = length f - t .pairs; pairs = pairsBy f t } ≡ partsOf f
+      pub body-right : w ≡ Sound
+          → record { verdict = w; shape = t .shape; start = length f - t .table; end = length f - t .pairs; pairs = ps } ≡ partsOf f
       unfolding partsOf drawingIn
-      parts-sound e =
+      body-right e =
           let h = headed .placed in
-          rw (← body-told, e, ← at, pairs-cut f t h, h .table-is, h .pairs-is)
+          rw (← body-told, e, ← trailer-is f looked-at, cut-off, pairs-cut f t h, h .table-is, h .pairs-is)
 
 -- reading
 

@@ -11,22 +11,23 @@ use lib.Seq.{length-take-le}
 use borrow.Rule.Slice.PartMut.{putMid}
 use Rattle.octets.specs.Copies.{copied}
 use Rattle.octets.proofs.CopyLaws.{copied-whole}
-use Rattle.octets.proofs.ListLaws.{part-more, part-length}
-use Rattle.rule.specs.Drawing.{Drawing, drawn}
+use Rattle.octets.proofs.ListLaws.{part-more}
+use Rattle.rule.specs.Drawing.{drawn}
 use Rattle.rule.specs.Refusals.{firstOf, conditions}
 use Rattle.rule.proofs.BoolLaws.{le-says}
 use Rattle.rule.proofs.RefusalLaws.{append-hit, append-more, first-sound}
+use Rattle.rule.specs.declared.Pair.{Pair}
 use Rattle.rule.specs.declared.Rule.{Rule}
 use Rattle.rule.specs.declared.Shape.{Shape}
 use Rattle.rule.specs.declared.Refusal.{Refusal}
 use Rattle.rule.specs.declared.Refusal.the-variants.{Class, Range, Distance, Room}
 use Rattle.rule.specs.declared.Verdict.{Verdict}
 use Rattle.rule.specs.declared.Verdict.the-variants.{Sound, Refused as Unsound}
-use Rattle.trailer.specs.Conditions.{class, range}
 use Rattle.trailer.proofs.HeadLaws.{third-refused, third-sound}
 use Rattle.trailer.proofs.SoundLaws.{Classed, classed-says, Ranged, ranged-says, passed, cells-in}
 use Rattle.rulefile.specs.Layout.{pairsOut, trailerOut, fileOf}
-use Rattle.rulefile.specs.Writing.{noted, verdictOf, PutPromise}
+use Rattle.rulefile.specs.Writing.{noted, measureConditions, verdictOf, PutPromise}
+use Rattle.rulefile.specs.declared.Written.{Written}
 use Rattle.rulefile.specs.declared.Written.the-variants.{Done, Refused}
 use Rattle.checks.specs.Checked.{checkedOf}
 use Rattle.checks.proofs.CheckLaws.{conditions-note}
@@ -64,7 +65,7 @@ pub record Measured (s : Shape) (length : ℕ) : Type 0 where
   pub ranged : Ranged s 0
   pub note-in : length ≤ 1024
 
-pub measured-sound : (s : Shape) (length : ℕ) → firstOf (class s ∷ range s 0 ∷ noted length ∷ []) ≡ Sound → Measured s length
+pub measured-sound : (s : Shape) (length : ℕ) → firstOf (measureConditions s length) ≡ Sound → Measured s length
 measured-sound s length e =
     let a = first-sound _ _ .0 e in
     let b = first-sound _ _ .0 (a .1) in
@@ -75,76 +76,85 @@ measured-sound s length e =
       note-in = passed Distance (le-says length 1024) .0 (c .0);
     }
 
--- the note stands in front, and then the rest was lent and filled
-filled : (note rest out : List ℕ) (a n : ℕ) → length note ≡ a → a + length rest ≡ n → n ≤ length out → {l last : List ℕ} → l ≡ copied note out → last ≡ rest
-    → putMid a (n - a) l last ≡ (note ++ rest) ++ drop n out
-filled note rest out a n k e h is full =
-    let s : length rest ≡ n - a = omega arith in
-    let m : a + (n - a) ≡ n = omega arith in
-    let whole = is ∙ copied-whole note out (omega arith) in
-    rw (whole, full, k) (part-more note rest out a (n - a) k s ∙ rw m)
+-- a file put by its parts
 
--- the size of a file
+module _ (note table : List ℕ) (s : Shape) (ps : List Pair) where
+  abbrev rest : List ℕ
+  rest = table ++ (pairsOut ps (s .pairs) ++ trailerOut s)
 
-pub length-file : (d : Drawing) → length (fileOf d) ≡ length (d .note) + length (d .table) + 16 * d .shape .pairs + 12
-unfolding fileOf
-length-file d =
-    length-append (d .note) _
-    ∙ rw (length-append (d .table), length-append (pairsOut (d .pairs) (d .shape .pairs)), length-pairsOut, length-trailerOut) (omega arith)
+  abbrev size : ℕ
+  size = length note + length table + 16 * s .pairs + 12
 
-abbrev pub sizeOf : Rule → ℕ
-sizeOf r = r .length + r .shape .states * r .shape .events + 16 * r .shape .pairs + 12
+  length-rest : length note + length rest ≡ size
+  length-rest =
+      rw (length-append table, length-append (pairsOut ps (s .pairs)), length-pairsOut, length-trailerOut) (omega arith)
 
-module _ (r : Rule) {v : Verdict} (head : v ≡ firstOf (class (r .shape) ∷ range (r .shape) 0 ∷ noted (r .length) ∷ [])) where
+  size-is : size ≡ length (note ++ rest)
+  size-is = sym (length-append note rest ∙ length-rest)
+
+  pub file-no-room : (out : List ℕ) → length out < size → PutPromise Sound (note ++ rest) out (Refused Room) out
+  file-no-room out h = put-no-room refl (rw size-is at h)
+
+  -- the note was copied to the front, and the rest was filled
+  pub file-put : (out : List ℕ) {l last : List ℕ} → size ≤ length out → l ≡ copied note out → last ≡ rest
+      → PutPromise Sound (note ++ rest) out (Done size) (putMid (length note) (size - length note) l last)
+  file-put out h is full =
+      let k : length rest ≡ size - length note = omega (arith, length-rest) in
+      let m : length note + (size - length note) ≡ size = omega arith in
+      put-done refl size-is h (rw (is ∙ copied-whole note out (omega arith), full) (part-more note rest out (length note) (size - length note) refl k ∙ rw m))
+
+-- a rule by value
+
+module _ (r : Rule) {v : Verdict} (head : v ≡ firstOf (measureConditions (r .shape) (r .length))) where
   -- 2 to 4
-  pub rule-unmeasured : {x : Refusal} → v ≡ Unsound x → verdictOf r ≡ Unsound x
+  pub head-refused : (out : List ℕ) {x : Refusal} → v ≡ Unsound x → PutPromise (verdictOf r) (fileOf (drawn r)) out (Refused x) out
   unfolding verdictOf
-  rule-unmeasured {x} e =
-      append-hit (class (r .shape) ∷ range (r .shape) 0 ∷ noted (r .length) ∷ []) (conditions (drawn r)) x (sym head ∙ e)
+  head-refused out {x} e =
+      put-refused (append-hit (measureConditions (r .shape) (r .length)) (conditions (drawn r)) x (sym head ∙ e))
 
   module _ (sound : v ≡ Sound) where
-    pub measured : Measured (r .shape) (r .length)
+    measured : Measured (r .shape) (r .length)
     measured = measured-sound (r .shape) (r .length) (sym head ∙ sound)
 
+    pub pairs-few : r .shape .pairs ≤ 8
+    pairs-few = measured .ranged .pairs-in
+
+    -- the note and the table that are used lie in their arrays
+    pub note-in-array : length (r .note) ≡ 1024 → r .length ≤ length (r .note)
+    note-in-array e = rw e (measured .note-in)
+
+    pub note-taken : length (r .note) ≡ 1024 → r .length ≡ length (take (r .length) (r .note))
+    note-taken e = sym (length-take-le (r .length) (r .note) (note-in-array e))
+
+    pub note-short : length (r .note) ≡ 1024 → length (take (r .length) (r .note)) ≤ 1024
+    note-short e = rw (← note-taken e) (measured .note-in)
+
+    pub table-in-array : length (r .table) ≡ 2048 → r .shape .states * r .shape .events ≤ length (r .table)
+    table-in-array e = rw e (cells-in (measured .ranged))
+
+    pub table-taken : length (r .table) ≡ 2048 → r .shape .states * r .shape .events ≡ length (take (r .shape .states * r .shape .events) (r .table))
+    table-taken e = sym (length-take-le (r .shape .states * r .shape .events) (r .table) (table-in-array e))
+
+    pub table-short : length (r .table) ≡ 2048 → length (take (r .shape .states * r .shape .events) (r .table)) ≤ 2048
+    table-short e = rw (← table-taken e) (cells-in (measured .ranged))
+
     -- 5 to 10
-    pub rule-told : {w : Verdict} → w ≡ checkedOf (r .shape) (take (r .shape .states * r .shape .events) (r .table)) (r .pairs) → w ≡ verdictOf r
-    unfolding verdictOf drawn
-    rule-told e =
-        let g = measured .ranged in
-        e
-        ∙ in-range (r .shape) (take (r .shape .states * r .shape .events) (r .table)) (r .pairs) (g .states-in) (g .some-pairs) (g .pairs-in)
-        ∙ ap firstOf (sym (conditions-note (r .shape) (take (r .length) (r .note)) _ _))
-        ∙ sym (append-more (class (r .shape) ∷ range (r .shape) 0 ∷ noted (r .length) ∷ []) (conditions (drawn r)) (sym head ∙ sound))
+    module _ {w : Verdict} (checked : w ≡ checkedOf (r .shape) (take (r .shape .states * r .shape .events) (r .table)) (r .pairs)) where
+      told : w ≡ verdictOf r
+      unfolding verdictOf drawn
+      told =
+          let g = measured .ranged in
+          checked
+          ∙ in-range (r .shape) (take (r .shape .states * r .shape .events) (r .table)) (r .pairs) (g .states-in) (g .some-pairs) (g .pairs-in)
+          ∙ ap firstOf (sym (conditions-note (r .shape) (take (r .length) (r .note)) _ _))
+          ∙ sym (append-more (measureConditions (r .shape) (r .length)) (conditions (drawn r)) (sym head ∙ sound))
 
-    -- where the arrays have the length that their types say
-    module _ (note-long : length (r .note) ≡ 1024) (table-long : length (r .table) ≡ 2048) where
-      note-taken : length (take (r .length) (r .note)) ≡ r .length
-      note-taken = let n = measured .note-in in length-take-le (r .length) (r .note) (rw note-long n)
+      pub body-refused : (out : List ℕ) {x : Refusal} → w ≡ Unsound x → PutPromise (verdictOf r) (fileOf (drawn r)) out (Refused x) out
+      body-refused out e = put-refused (sym told ∙ e)
 
-      table-taken : length (take (r .shape .states * r .shape .events) (r .table)) ≡ r .shape .states * r .shape .events
-      table-taken = length-take-le (r .shape .states * r .shape .events) (r .table) (rw table-long (cells-in (measured .ranged)))
-
-      pub length-written : length (fileOf (drawn r)) ≡ sizeOf r
-      unfolding drawn
-      length-written = length-file (drawn r) ∙ rw (note-taken, table-taken)
-
-      -- the room that is lent for all that stands after the note
-      pub rest-lent : (l : List ℕ) → sizeOf r ≤ length l
-          → length (take (sizeOf r - r .length) (drop (r .length) l))
-          ≡ length (take (r .shape .states * r .shape .events) (r .table)) + (16 * r .shape .pairs + 12)
-      rest-lent l h = part-length (r .length) (sizeOf r) l h ∙ rw table-taken (rest (r .length) (r .shape .states * r .shape .events) (16 * r .shape .pairs))
-        where
-          rest : (a b c : ℕ) → a + b + c + 12 - a ≡ b + (c + 12)
-          rest a b c = omega arith
-
-      -- the note was copied to the front, and the rest was filled
-      pub all-written : (out : List ℕ) → sizeOf r ≤ length out → {l last : List ℕ} → l ≡ copied (take (r .length) (r .note)) out
-          → last ≡ take (r .shape .states * r .shape .events) (r .table) ++ (pairsOut (r .pairs) (r .shape .pairs) ++ trailerOut (r .shape))
-          → putMid (r .length) (sizeOf r - r .length) l last ≡ fileOf (drawn r) ++ drop (sizeOf r) out
+      -- the file by its parts is that of the rule
+      pub rule-put : {out : List ℕ} {a : Written} {out′ : List ℕ} → w ≡ Sound
+          → PutPromise Sound (take (r .length) (r .note) ++ (take (r .shape .states * r .shape .events) (r .table) ++ (pairsOut (r .pairs) (r .shape .pairs) ++ trailerOut (r .shape)))) out a out′
+          → PutPromise (verdictOf r) (fileOf (drawn r)) out a out′
       unfolding fileOf drawn
-      all-written out h is full =
-          let cells = r .shape .states * r .shape .events in
-          let back = take cells (r .table) ++ (pairsOut (r .pairs) (r .shape .pairs) ++ trailerOut (r .shape)) in
-          let n : r .length + length back ≡ sizeOf r
-          = rw (length-append (take cells (r .table)), length-append (pairsOut (r .pairs) (r .shape .pairs)), table-taken, length-pairsOut, length-trailerOut) (omega arith) in
-          rw (pairsOut-take (r .pairs) (r .shape .pairs)) (filled (take (r .length) (r .note)) back out (r .length) (sizeOf r) note-taken n h is full)
+      rule-put e p = rw (sym told ∙ e, pairsOut-take (r .pairs) (r .shape .pairs)) p

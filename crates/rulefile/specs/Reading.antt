@@ -1,14 +1,14 @@
 -- What looking at a rule file and reading it come to.
 -- Assumes nothing.
 use Prim.Native.Nat.{ℕ, _-_}
-use mathlib.Core.List.{List, _∷_}
+use mathlib.Core.List.{List, _∷_, _++_}
 use lib.ListN.{length, replicate}
 use Rattle.rule.specs.Drawing.{stateNo, noPair, padded, ruleOf, zeroRule}
 use Rattle.rule.specs.Refusals.{firstOf, conditions}
 use Rattle.rule.specs.declared.Rule.{Rule}
 use Rattle.rule.specs.declared.Verdict.{Verdict}
 use Rattle.rule.specs.declared.Verdict.the-variants.{Sound, Refused}
-use Rattle.trailer.specs.Conditions.{tableBack, pairsBack, frame, class, range, distance}
+use Rattle.trailer.specs.Conditions.{tableBack, pairsBack, frame, headConditions}
 use Rattle.rulefile.specs.Layout.{trailerIn, drawingIn}
 use Rattle.rulefile.specs.declared.Contents.{Contents}
 use Rattle.rulefile.specs.declared.Reading.{Reading}
@@ -16,8 +16,7 @@ use Rattle.rulefile.specs.declared.Reading.{Reading}
 -- the conditions 1 to 10 in order
 abbrev pub fileConditions : List ℕ → List Verdict
 fileConditions f =
-    let t = trailerIn f in
-    frame f ∷ class (t .shape) ∷ range (t .shape) (t .spare) ∷ distance t (length f) ∷ conditions (drawingIn f)
+    frame f ∷ (headConditions (trailerIn f) (length f) ++ conditions (drawingIn f))
 
 -- whether the file is sound, or the first refusal
 unfoldable pub verdictOn : List ℕ → Verdict

@@ -3,12 +3,13 @@
 use Prim.Native.Nat.{ℕ}
 use mathlib.Core.Path.{_≡_}
 use mathlib.Core.Bool.{cond, not}
-use mathlib.Core.List.{List, _∷_, _++_}
+use mathlib.Core.List.{List, [], _∷_, _++_}
 use lib.ListN.{length, drop}
 use lib.Dec.{leb}
 use Rattle.rule.specs.Drawing.{drawn}
 use Rattle.rule.specs.Refusals.{refuseIf, firstOf, conditions}
 use Rattle.rule.specs.declared.Rule.{Rule}
+use Rattle.rule.specs.declared.Shape.{Shape}
 use Rattle.rule.specs.declared.Refusal.the-variants.{Distance, Room}
 use Rattle.rule.specs.declared.Verdict.{Verdict}
 use Rattle.rule.specs.declared.Verdict.the-variants.{Sound, Refused as Unsound}
@@ -21,9 +22,12 @@ use Rattle.rulefile.specs.declared.Written.the-variants.{Done, Refused}
 abbrev pub noted : ℕ → Verdict
 noted length = refuseIf (not (leb length 1024)) Distance
 
--- the conditions 2 to 10 of a rule by value, in order
+-- the conditions of a rule by value in order: 2 to 4 of a shape and a note's length, and then 5 to 10
+abbrev pub measureConditions : Shape → ℕ → List Verdict
+measureConditions s length = class s ∷ range s 0 ∷ noted length ∷ []
+
 abbrev pub ruleConditions : Rule → List Verdict
-ruleConditions r = class (r .shape) ∷ range (r .shape) 0 ∷ noted (r .length) ∷ conditions (drawn r)
+ruleConditions r = measureConditions (r .shape) (r .length) ++ conditions (drawn r)
 
 unfoldable pub verdictOf : Rule → Verdict
 verdictOf r = firstOf (ruleConditions r)

@@ -13,7 +13,7 @@ use Rattle.rule.specs.declared.Refusal.{Refusal}
 use Rattle.rule.specs.declared.Refusal.the-variants.{Class, Range}
 use Rattle.rule.specs.declared.Verdict.{Verdict}
 use Rattle.rule.specs.declared.Verdict.the-variants.{Sound, Refused}
-use Rattle.trailer.specs.Conditions.{classed, class, ranged, range}
+use Rattle.trailer.specs.Conditions.{classed, ranged, shapeConditions}
 
 -- a comparison's answer from what it compares
 pub ruleset tests = (le-leb, lt-leb, le-ltb, lt-ltb, eq-eqb, ne-eqb)
@@ -21,16 +21,16 @@ pub ruleset tests = (le-leb, lt-leb, le-ltb, lt-ltb, eq-eqb, ne-eqb)
 -- the refusals 2 and 3
 
 module _ (s : Shape) (spare : ℕ) where
-  pub class-wrong : not (leb 1 (s .class) && leb (s .class) 4) ≡ true → Refused Class ≡ firstOf (class s ∷ range s spare ∷ [])
+  pub class-wrong : not (leb 1 (s .class) && leb (s .class) 4) ≡ true → Refused Class ≡ firstOf (shapeConditions s spare)
   unfolding firstOf classed
   class-wrong h = rw h
 
   module _ (right : not (leb 1 (s .class) && leb (s .class) 4) ≡ false) {ok : Bool} (is : ok ≡ ranged s spare) where
-    pub range-wrong : not ok ≡ true → Refused Range ≡ firstOf (class s ∷ range s spare ∷ [])
+    pub range-wrong : not ok ≡ true → Refused Range ≡ firstOf (shapeConditions s spare)
     unfolding firstOf classed
     range-wrong h = rw (right, ← is, not-true ok h)
 
-    pub range-right : not ok ≡ false → Sound ≡ firstOf (class s ∷ range s spare ∷ [])
+    pub range-right : not ok ≡ false → Sound ≡ firstOf (shapeConditions s spare)
     unfolding firstOf classed
     range-right h = rw (right, ← is, not-false ok h)
 

@@ -3,20 +3,19 @@
 use Prim.Native.Nat.{ℕ}
 use native.Mathlib.Omega.{arith}
 use mathlib.Core.Bool.{not}
-use mathlib.Core.List.{[], _∷_}
 use Rattle.rule.specs.Refusals.{firstOf}
 use Rattle.rule.specs.declared.Shape.{Shape}
 use Rattle.rule.specs.declared.Refusal.the-variants.{Class, Range, Distance}
 use Rattle.rule.proofs.NumberLaws.{Gives, refuse-gives, first-gives, end, and}
-use Rattle.trailer.specs.Conditions.{classed, class, ranged, range, placed, distance}
+use Rattle.trailer.specs.Conditions.{classed, ranged, placed, shapeConditions, headConditions}
 use Rattle.trailer.specs.declared.Trailer.{Trailer}
 
-pub shape-gives : (s : Shape) (spare : ℕ) → Gives 2 3 (firstOf (class s ∷ range s spare ∷ []))
+pub shape-gives : (s : Shape) (spare : ℕ) → Gives 2 3 (firstOf (shapeConditions s spare))
 shape-gives s spare =
     first-gives
     (and (refuse-gives (not (classed s)) Class (omega arith)) (and (refuse-gives (not (ranged s spare)) Range (omega arith)) end))
 
-pub head-gives : (t : Trailer) (size : ℕ) → Gives 2 4 (firstOf (class (t .shape) ∷ range (t .shape) (t .spare) ∷ distance t size ∷ []))
+pub head-gives : (t : Trailer) (size : ℕ) → Gives 2 4 (firstOf (headConditions t size))
 head-gives t size =
     first-gives
     (and (refuse-gives (not (classed (t .shape))) Class (omega arith))

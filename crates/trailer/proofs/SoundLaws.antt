@@ -1,7 +1,7 @@
 -- What a file, a shape or a trailer has that passed a check: each condition 1 to 4 in plain words.
 -- Assumes nothing.
 use mathlib.Core.Path.{_≡_}
-use mathlib.Core.List.{List, [], _∷_}
+use mathlib.Core.List.{List}
 use mathlib.Core.Bool.{Bool, not}
 use mathlib.Core.Logic.{_⊎_, _↔_}
 use Prim.Native.Nat.{ℕ, _-_, _*_, _≤_, _<_}
@@ -15,7 +15,7 @@ use Rattle.rule.specs.declared.Shape.{Shape}
 use Rattle.rule.specs.declared.Refusal.{Refusal}
 use Rattle.rule.specs.declared.Refusal.the-variants.{Class, Range, Distance}
 use Rattle.rule.specs.declared.Verdict.the-variants.{Sound}
-use Rattle.trailer.specs.Conditions.{framed, classed, class, ranged, range, placed, distance, pairsBack, tableBack}
+use Rattle.trailer.specs.Conditions.{framed, classed, ranged, placed, pairsBack, tableBack, headConditions}
 use Rattle.trailer.specs.declared.Trailer.{Trailer}
 
 -- a condition that is refused where its test fails
@@ -101,7 +101,7 @@ pub record Headed (t : Trailer) (size : ℕ) : Type 0 where
   pub ranged : Ranged (t .shape) (t .spare)
   pub placed : Placed t size
 
-pub headed-sound : (t : Trailer) (size : ℕ) → firstOf (class (t .shape) ∷ range (t .shape) (t .spare) ∷ distance t size ∷ []) ≡ Sound → Headed t size
+pub headed-sound : (t : Trailer) (size : ℕ) → firstOf (headConditions t size) ≡ Sound → Headed t size
 headed-sound t size e =
     let a = first-sound _ _ .0 e in
     let b = first-sound _ _ .0 (a .1) in

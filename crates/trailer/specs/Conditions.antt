@@ -2,7 +2,7 @@
 -- Assumes nothing.
 use Prim.Native.Nat.{ℕ, _+_, _-_, _*_}
 use mathlib.Core.Bool.{Bool, not, _&&_, _||_}
-use mathlib.Core.List.{List}
+use mathlib.Core.List.{List, [], _∷_}
 use lib.ListN.{length, getD}
 use lib.Dec.{leb, ltb, eqb}
 use Rattle.rule.specs.Refusals.{refuseIf}
@@ -50,3 +50,10 @@ placed t size =
 
 abbrev pub distance : Trailer → ℕ → Verdict
 distance t size = refuseIf (not (placed t size)) Distance
+
+-- the conditions of a shape, 2 and 3, and of a trailer in a file of so many bytes, 2 to 4
+abbrev pub shapeConditions : Shape → ℕ → List Verdict
+shapeConditions s spare = class s ∷ range s spare ∷ []
+
+abbrev pub headConditions : Trailer → ℕ → List Verdict
+headConditions t size = class (t .shape) ∷ range (t .shape) (t .spare) ∷ distance t size ∷ []

@@ -1,8 +1,7 @@
 // The frame of a rule file and its last twelve bytes, the trailer: the refusals 1 to 4 (document 01, "Layouts" and "Refusal numbers").
 ghost use mathlib.Core.Path.{_≡_};
-ghost use mathlib.Core.List.{[], _∷_};
 ghost use Rattle.rule.specs.Refusals.{firstOf};
-ghost use Rattle.trailer.specs.Conditions.{class, range, distance};
+ghost use Rattle.trailer.specs.Conditions.{shapeConditions, headConditions};
 use rule::Refusal;
 use rule::Rule;
 use rule::Shape;
@@ -48,7 +47,7 @@ fn ranged(shape: Shape, spare: u8) -> bool
 
 // The refusals 2 and 3.
 pub fn shaped(shape: Shape, spare: u8) -> Verdict
-    ensures { λ r. ⌜ r ≡ firstOf (class shape ∷ range shape spare ∷ []) ⌝ }
+    ensures { λ r. ⌜ r ≡ firstOf (shapeConditions shape spare) ⌝ }
 {
     if !((1 <= shape.class) & (shape.class <= 4)) {
         return Verdict::Refused(Refusal::Class);
@@ -80,7 +79,7 @@ fn placed(trailer: Trailer, len: usize) -> bool
 
 // The refusals 2 to 4 of a file of so many bytes.
 pub fn headed(trailer: Trailer, len: usize) -> Verdict
-    ensures { λ r. ⌜ r ≡ firstOf (class (trailer .shape) ∷ range (trailer .shape) (trailer .spare) ∷ distance trailer len ∷ []) ⌝ }
+    ensures { λ r. ⌜ r ≡ firstOf (headConditions trailer len) ⌝ }
 {
     let shape = trailer.shape;
     let verdict = shaped(shape, trailer.spare);

@@ -1,12 +1,12 @@
 // The rule file written: a rule by value to the front of a lent output (document 01, "Layouts" and "Refusal numbers").
 ghost use mathlib.Core.Path.{_≡_};
-ghost use mathlib.Core.List.{[], _∷_, _++_};
+ghost use mathlib.Core.List.{_++_};
 ghost use Prim.Native.Nat.{_+_, _*_, _≤_};
 ghost use lib.ListN.{length};
 ghost use Rattle.rule.specs.Refusals.{firstOf};
-ghost use Rattle.trailer.specs.Conditions.{class, range};
+ghost use Rattle.rule.specs.declared.Verdict.the-variants.{Sound};
 ghost use Rattle.rulefile.specs.Layout.{pairOut, pairsOut, trailerOut};
-ghost use Rattle.rulefile.specs.Writing.{noted, WritePromise};
+ghost use Rattle.rulefile.specs.Writing.{measureConditions, PutPromise, WritePromise};
 use rule::Pair;
 use rule::Refusal;
 use rule::Rule;
@@ -17,7 +17,7 @@ use trailer::shaped;
 
 // The refusals 2 to 4 of a rule by value.
 fn measured(shape: Shape, length: usize) -> Verdict
-    ensures { λ r. ⌜ r ≡ firstOf (class shape ∷ range shape 0 ∷ noted length ∷ []) ⌝ }
+    ensures { λ r. ⌜ r ≡ firstOf (measureConditions shape length) ⌝ }
 {
     let verdict = shaped(shape, 0);
     let Verdict::Sound = verdict else {
@@ -98,12 +98,28 @@ fn fill(out: &mut [u8], table: &[u8], shape: Shape, pairs: [Pair; 8])
     put_end(&mut out[cells..], shape, pairs);
 }
 
+// Puts a file to the front of the output, by its parts: refusal 16.
+fn put_file(out: &mut [u8], note: &[u8], table: &[u8], shape: Shape, pairs: [Pair; 8]) -> Written
+    requires { ⌜ (shape .pairs ≤ 8) × (length (now note) ≤ 1024) × (length (now table) ≤ 2048) ⌝ }
+    ensures { λ r. ⌜ PutPromise Sound (now (note .entry) ++ (now (table .entry) ++ (pairsOut pairs (shape .pairs) ++ trailerOut shape))) (now (out .entry)) r (now (out .exit)) ⌝ }
+{
+    let start = note.len();
+    let size = start + table.len() + 16 * (shape.pairs as usize) + 12;
+    if out.len() < size {
+        return Written::Refused(Refusal::Room);
+    }
+    octets::copy(note, out);
+    fill(&mut out[start..size], table, shape, pairs);
+    Written::Done(size)
+}
+
 // Writes a rule to the front of the output: the refusals 2, 3, 4 for the note, 5 to 10, then 16.
 pub fn write(rule: Rule, out: &mut [u8]) -> Written
     ensures { λ r. ⌜ WritePromise rule (now (out .entry)) r (now (out .exit)) ⌝ }
 {
     let shape = rule.shape;
-    let verdict = measured(shape, rule.length);
+    let length = rule.length;
+    let verdict = measured(shape, length);
     if let Verdict::Refused(refusal) = verdict {
         return Written::Refused(refusal);
     }
@@ -114,13 +130,6 @@ pub fn write(rule: Rule, out: &mut [u8]) -> Written
     if let Verdict::Refused(refusal) = verdict {
         return Written::Refused(refusal);
     }
-    let length = rule.length;
-    let size = length + cells + 16 * (shape.pairs as usize) + 12;
-    if out.len() < size {
-        return Written::Refused(Refusal::Room);
-    }
     let note = rule.note;
-    octets::copy(&note[..length], out);
-    fill(&mut out[length..size], &table[..cells], shape, pairs);
-    Written::Done(size)
+    put_file(out, &note[..length], &table[..cells], shape, pairs)
 }

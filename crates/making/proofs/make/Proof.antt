@@ -1,8 +1,6 @@
--- `make` meets its contract: a refusal of the file, too little room, or the sheet of its drawing. Assumes nothing.
-use mathlib.Core.Path.{sym}
-use lib.Seq.{length-take-le}
+-- `make` meets its contract: a refusal of the file, or what putting the sheet of its drawing comes to. Assumes nothing.
 use Rattle.rulefile.proofs.PartsLaws.{table-order, table-inside}
-use Rattle.making.proofs.FoundLaws.{found-few, found-low, found-fits, found-room, made-refused, made-room, made}
+use Rattle.making.proofs.FoundLaws.{found-few, found-low, found-short, made-refused, made}
 use borrow.Author.Needs.{needs}
 use Rattle.making.proofs.make.Statement.{statement}
 use Rattle.making.proofs.make.Tie as tie
@@ -19,21 +17,6 @@ returns c = search (needs, made-refused)
 enum-told : tie.Need-enum-told
 enum-told c = search needs
 
-sub-size : tie.Need-sub-size
-sub-size c = search (needs, table-order)
-
-add-size : tie.Need-add-size
-add-size c = search (needs, found-fits)
-
-returns-2 : tie.Need-returns-2
-returns-2 c = search (needs, made-room)
-
-slice-relend-prefix-put : tie.Need-slice-relend-prefix-put
-slice-relend-prefix-put c = search needs
-
-slice-aggregate-put : tie.Need-slice-aggregate-put
-slice-aggregate-put c = sym (length-take-le _ _ (search needs))
-
 sub-put : tie.Need-sub-put
 sub-put c = search (needs, table-order)
 
@@ -44,13 +27,13 @@ part-put-end : tie.Need-part-put-end
 part-put-end c = search (needs, table-inside)
 
 put-requires : tie.Need-put-requires
-put-requires c κs = (search (needs, found-few), search (needs, found-low), search (needs, found-room))
+put-requires c κs = (search (needs, found-few), search (needs, found-low), search (needs, found-short))
 
 same-length : tie.Need-same-length
 same-length c = search needs
 
-returns-3 : tie.Need-returns-3
-returns-3 c = search (needs, made)
+returns-2 : tie.Need-returns-2
+returns-2 c = search (needs, made)
 
 pub make-spec : {M : Type 1} → statement M
 make-spec =
@@ -60,14 +43,9 @@ make-spec =
     enum-known-verdict
     returns
     enum-told
-    sub-size
-    add-size
-    returns-2
-    slice-relend-prefix-put
-    slice-aggregate-put
     sub-put
     part-put-start
     part-put-end
     put-requires
     same-length
-    returns-3)
+    returns-2)

@@ -19,7 +19,7 @@ unread-requires : tie.Need-unread-requires
 unread-requires c κs = search needs
 
 returns : tie.Need-returns
-returns c = read-refused (c .before .before .before .before .before .before .args .file .now) (c .before .before .before .before .parts .ensures) (c .before .before .verdict .given .1) (c .unread .ensures)
+returns c = search (needs, read-refused)
 
 enum-told : tie.Need-enum-told
 enum-told c = search needs
@@ -53,7 +53,7 @@ copy-requires-2 : tie.Need-copy-requires-2
 copy-requires-2 c κs = search needs
 
 returns-2 : tie.Need-returns-2
-returns-2 c = read-sound (c .before .before .before .before .before .before .before .before .before .before .before .before .before .before .args .file .now) (c .before .before .before .before .before .before .before .before .before .before .before .before .parts .ensures) (c .before .before .before .before .before .before .before .before .before .before .enum-told .given .1) (c .before .before .before .before .before .before .before .copy .ensures) (c .before .before .before .copy2 .ensures)
+returns-2 c = search (needs, read-sound)
 
 pub read-spec : {M : Type 1} → statement M
 read-spec =
