@@ -2,15 +2,10 @@
 -- Assumes nothing.
 use mathlib.Core.Path.{_≡_, refl, sym, ap, subst⁻¹, _∙_}
 use mathlib.Core.List.{List}
-use Prim.Native.Nat.{ℕ, _+_, _-_, _*_, _^_, _≤_, _<_}
-use native.Mathlib.Nat.{lt-of-lt-of-le, pow-le-pow-right}
-use native.Mathlib.Decide.{decLt}
+use Prim.Native.Nat.{ℕ, _+_, _-_, _*_, _≤_}
 use native.Mathlib.Omega.{arith}
-use lib.Dec.{lit<}
-use lib.ListN.{length, getD, take, drop, length-take, length-drop, List·getD-eq-default}
+use lib.ListN.{length, take, drop, length-drop}
 use lib.Seq.{length-take-le}
-use Rattle.octets.specs.Numbers.{Bytes, valueOf}
-use Rattle.octets.proofs.NumberLaws.{bytes-take, bytes-drop, valueOf-lt}
 use Rattle.rule.specs.Drawing.{noPair, padded}
 use Rattle.rule.specs.Refusals.{firstOf, conditions}
 use Rattle.rule.proofs.RefusalLaws.{first-sound}
@@ -19,10 +14,10 @@ use Rattle.rule.specs.declared.Verdict.{Verdict}
 use Rattle.rule.specs.declared.Verdict.the-variants.{Sound, Refused}
 use Rattle.trailer.specs.Conditions.{tableBack, pairsBack}
 use Rattle.trailer.proofs.SoundLaws.{Framed, framed-says, Classed, classed-says, Ranged, ranged-says, Placed, placed-says, passed}
-use Rattle.rulefile.specs.Layout.{trailerIn, pairIn, pairBytes, upTo, drawingIn}
+use Rattle.rulefile.specs.Layout.{trailerIn, drawingIn}
 use Rattle.rulefile.specs.Reading.{verdictOn, partsBy, partsOf}
 use Rattle.rulefile.specs.declared.Contents.{Contents}
-use Rattle.rulefile.proofs.ListLaws.{length-upTo, getD-upTo, take-padded}
+use Rattle.rulefile.proofs.ListLaws.{length-upTo, take-padded}
 
 -- what the ten conditions leave
 pub record SoundFile (f : List ℕ) : Type 0 where
@@ -67,25 +62,6 @@ module _ (f : List ℕ) (s : SoundFile f) where
   pub pairs-drawn : length (drawingIn f .pairs) ≡ trailerIn f .shape .pairs
   unfolding drawingIn
   pairs-drawn = length-upTo _ (trailerIn f .shape .pairs)
-
-  -- the numbers of each pair fit 64 bits
-  pub pairs-fit : Bytes f → (i : ℕ) → (getD (drawingIn f .pairs) i noPair .r < 2 ^ 64) × (getD (drawingIn f .pairs) i noPair .p < 2 ^ 64)
-  unfolding drawingIn
-  pairs-fit b i = fit (decLt i (trailerIn f .shape .pairs))
-    where
-      bytes : List ℕ
-      bytes = pairBytes (trailerIn f .shape) f
-
-      eight : (a : ℕ) → valueOf (take 8 (drop a bytes)) < 2 ^ 64
-      eight a =
-          let t = take 8 (drop a bytes) in
-          let all = bytes-take 8 (drop a bytes) (bytes-drop a bytes (bytes-take (16 * trailerIn f .shape .pairs) (drop (length f - pairsBack (trailerIn f .shape)) f) (bytes-drop (length f - pairsBack (trailerIn f .shape)) f b))) in
-          let few : length t ≤ 8 = rw length-take (omega arith) in
-          lt-of-lt-of-le (valueOf-lt t all) (pow-le-pow-right {n = 256} (lit< tt) few)
-
-      fit : Dec (i < trailerIn f .shape .pairs) → (getD (upTo (pairIn bytes) (trailerIn f .shape .pairs)) i noPair .r < 2 ^ 64) × (getD (upTo (pairIn bytes) (trailerIn f .shape .pairs)) i noPair .p < 2 ^ 64)
-      fit (yes h) = rw (getD-upTo (pairIn bytes) (trailerIn f .shape .pairs) i noPair h) (eight (16 * i), eight (16 * i + 8))
-      fit (no h) = rw (List·getD-eq-default (upTo (pairIn bytes) (trailerIn f .shape .pairs)) noPair {n = i} (rw length-upTo (omega arith))) (lit< tt, lit< tt)
 
 -- what looking at a sound file gives
 pub record SoundParts (f : List ℕ) (p : Contents) : Type 0 where
@@ -153,10 +129,16 @@ sound-parts f e v =
     let s = sym (parts-verdict f e) ∙ v in
     subst⁻¹ (λ (p : Contents). SoundParts f p) (e ∙ parts-of-sound f s) (parts-all f (sound-file f s))
 
--- where its table stands
+-- where its note and its table stand
 module _ (f : List ℕ) {p : Contents} (is : p ≡ partsOf f) (v : p .verdict ≡ Sound) where
   pub table-order : p .start ≤ p .end
   table-order = omega (arith, sound-parts f is v .table-ends)
 
   pub table-inside : p .end ≤ length f
   table-inside = omega (arith, sound-parts f is v .pairs-end)
+
+  pub note-inside : p .start ≤ length f
+  note-inside = omega (arith, table-order, table-inside)
+
+  pub note-taken : p .start ≡ length (take (p .start) f)
+  note-taken = sym (length-take-le (p .start) f note-inside)

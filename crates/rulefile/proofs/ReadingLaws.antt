@@ -31,18 +31,15 @@ use Rattle.rulefile.proofs.ListLaws.{length-upTo, take-padded, copied-p
 use Rattle.rulefile.proofs.PartsLaws.{sound-parts, parts-verdict}
 
 -- the length of a part that is given by two distances from the end
-pub gap : (len far near : ℕ) → near ≤ far → far ≤ len → len - near - (len - far) ≡ far - near
+gap : (len far near : ℕ) → near ≤ far → far ≤ len → len - near - (len - far) ≡ far - near
 gap len far near h k = omega arith
 
 -- the parts of a file that its trailer's own distances cut off
 
-abbrev pub noteBy : List ℕ → Trailer → List ℕ
-noteBy f t = take (length f - t .table) f
-
-abbrev pub tableBy : List ℕ → Trailer → List ℕ
+abbrev tableBy : List ℕ → Trailer → List ℕ
 tableBy f t = take (length f - t .pairs - (length f - t .table)) (drop (length f - t .table) f)
 
-abbrev pub pairsBy : List ℕ → Trailer → List Pair
+abbrev pairsBy : List ℕ → Trailer → List Pair
 pairsBy f t = padded 8 noPair (upTo (pairIn (take (length f - 12 - (length f - t .pairs)) (drop (length f - t .pairs) f))) (t .shape .pairs))
 
 -- the distances of a trailer that was found right

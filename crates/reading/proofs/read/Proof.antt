@@ -1,10 +1,7 @@
 -- `reading::read` meets its contract.
 -- Assumes nothing.
 use borrow.Author.Needs.{needs}
-use mathlib.Core.Path.{sym}
-use native.Mathlib.Omega.{arith}
-use lib.Seq.{length-take-le}
-use Rattle.rulefile.proofs.PartsLaws.{SoundParts, sound-parts}
+use Rattle.rulefile.proofs.PartsLaws.{table-order, table-inside, note-taken}
 use Rattle.rulefile.proofs.ReadingLaws.{read-refused, read-sound}
 use Rattle.reading.proofs.read.Statement.{statement}
 use Rattle.reading.proofs.read.Tie as tie
@@ -24,12 +21,8 @@ returns c = search (needs, read-refused)
 enum-told : tie.Need-enum-told
 enum-told c = search needs
 
--- what was found
-good : (c : tie.After-enum-told) → SoundParts (c .before .before .before .before .args .file .now) (c .before .before .parts .result)
-good c = sound-parts _ (c .before .before .parts .ensures) (c .enum-told .given .1)
-
 slice-aggregate-copy : tie.Need-slice-aggregate-copy
-slice-aggregate-copy c = let s = good (c .before) in sym (length-take-le _ _ (omega arith))
+slice-aggregate-copy c = search (needs, note-taken)
 
 slice-aggregate-copy-2 : tie.Need-slice-aggregate-copy-2
 slice-aggregate-copy-2 c = search needs
@@ -38,13 +31,13 @@ copy-requires : tie.Need-copy-requires
 copy-requires c κs = search needs
 
 sub-copy : tie.Need-sub-copy
-sub-copy c = let s = good (c .before .before .before .before) in omega arith
+sub-copy c = search (needs, table-order)
 
 part-copy-start : tie.Need-part-copy-start
-part-copy-start c = let s = good (c .before .before .before .before) in omega arith
+part-copy-start c = search (needs, table-order)
 
 part-copy-end : tie.Need-part-copy-end
-part-copy-end c = let s = good (c .before .before .before .before) in omega arith
+part-copy-end c = search (needs, table-inside)
 
 slice-aggregate-copy-3 : tie.Need-slice-aggregate-copy-3
 slice-aggregate-copy-3 c = search needs
