@@ -14,7 +14,7 @@ use Rattle.octets.specs.Numbers.{digits}
 use Rattle.octets.specs.Copies.{copied}
 use Rattle.octets.proofs.CopyLaws.{copied-full}
 use Rattle.octets.proofs.ListLaws.{store-more, part-more}
-use Rattle.rule.specs.Drawing.{body}
+use Rattle.rule.specs.Drawing.{Drawing, body}
 use Rattle.rule.specs.Operations.{markOf, operationAt, operationsOf}
 use Rattle.rule.specs.declared.Operation.{Operation}
 use Rattle.rule.specs.declared.Operation.the-variants.{Halt, Store, Dump}
@@ -92,11 +92,15 @@ lent-cells table out room = sym (cells-lent table out room)
 pub low-64 : (table : List ℕ) (n : ℕ) → n ≤ 64 → ((i : ℕ) → getD table i 0 < n) → (i : ℕ) → getD table i 0 < 64
 low-64 table n few low i = omega (arith, low i)
 
+-- a sheet has a cell for each entry of the table, and six bytes
+pub length-sheet : (d : Drawing) → length (sheetOf d) ≡ length (d .table) + 6
+unfolding sheetOf digits
+length-sheet d = length-append (map (cellAt d) (d .table)) (endOf (d .shape)) ∙ rw length-map
+
 -- the whole sheet: no room, or put at the front of the output
 module _ (h : Shape) (table : List ℕ) (pairs : List Pair) (out : List ℕ) where
   sheet-size : length table + 6 ≡ length (sheetOf (body h table pairs))
-  unfolding sheetOf digits
-  sheet-size = sym (length-append (map (cellAt (body h table pairs)) table) (endOf h) ∙ rw length-map)
+  sheet-size = sym (length-sheet (body h table pairs))
 
   pub sheet-no-room : length out < length table + 6 → PutPromise Sound (sheetOf (body h table pairs)) out (Refused Room) out
   sheet-no-room l = put-no-room refl (rw sheet-size at l)

@@ -18,6 +18,7 @@ use Rattle.sheet.specs.Opening.{back, openedOf}
 use Rattle.sheet.specs.declared.Opened.the-variants.{Sheet}
 use Rattle.sheet.proofs.OpeningLaws.{opened-when}
 use Rattle.making.specs.Making.{cellAt, endOf, sheetOf}
+use Rattle.making.proofs.CellLaws.{length-sheet}
 
 -- an element of a mapped list
 getD-map : (f : ℕ → ℕ) (l : List ℕ) (i : ℕ) → i < length l → getD (map f l) i 0 ≡ f (getD l i 0)
@@ -71,8 +72,7 @@ module _ {d : Drawing} (f : Formed d) where
       ]
 
   pub sheet-length : length (sheetOf d) ≡ states d * events d + 6
-  unfolding sheetOf digits
-  sheet-length = length-append (map (cellAt d) (d .table)) (endOf (d .shape)) ∙ rw (length-map, f .cells)
+  sheet-length = length-sheet d ∙ rw (f .cells)
 
   -- the cell of state s at event e
   module _ (s e : ℕ) (hs : s < states d) (he : e < events d) where

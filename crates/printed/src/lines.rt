@@ -45,7 +45,7 @@ pub(crate) fn put_refusal(out: &mut [u8], at: usize, told: Told) -> usize
     put_line(out, at, b"refused", &[told.number, told.a, told.b])
 }
 
-// The end of a cell: the operation's word after a space.
+// The end of a cell: the operation's word after a space, and the end of the line.
 fn put_operation(out: &mut [u8], at: usize, operation: Operation) -> usize
     requires { ⌜ Room (now out) at (cellEnd operation) ⌝ }
     ensures { λ r. ⌜ Put (now (out .entry)) at (cellEnd operation) r (now (out .exit)) ⌝ }
