@@ -15,7 +15,7 @@ help:
 example:
 	@./examples/show
 
-# target/staticlib/liboffice.a, made by rt if it is missing or older than the crates
+# target/staticlib/libpachallu.a, made by rt if it is missing or older than the crates
 archive:
 	@set -eu; me=make; top=$$(pwd -P); . ./host/tools.sh; need_archive
 
@@ -24,7 +24,7 @@ install: archive
 	case '$(PREFIX)' in /*) ;; *) echo 'make: PREFIX must be an absolute path, not "$(PREFIX)"' >&2; exit 2 ;; esac; \
 	mkdir -p '$(DESTDIR)$(INCLUDEDIR)' '$(DESTDIR)$(LIBDIR)' '$(DESTDIR)$(PKGCONFIGDIR)'; \
 	install -m 644 include/pachallu.h '$(DESTDIR)$(INCLUDEDIR)/pachallu.h'; \
-	install -m 644 target/staticlib/liboffice.a '$(DESTDIR)$(LIBDIR)/libpachallu.a'; \
+	install -m 644 target/staticlib/libpachallu.a '$(DESTDIR)$(LIBDIR)/libpachallu.a'; \
 	printf '%s\n' 'prefix=$(PREFIX)' 'includedir=$(INCLUDEDIR)' 'libdir=$(LIBDIR)' '' 'Name: pachallu' \
 	    'Description: Monitors for drawn rules, proved (x86-64 Linux)' 'Version: $(VERSION)' \
 	    'Cflags: -I$${includedir}' 'Libs: -L$${libdir} -lpachallu' >'$(DESTDIR)$(PKGCONFIGDIR)/pachallu.pc'; \

@@ -98,9 +98,9 @@ rattle() {
 
 # need_archive: the library, $archive
 need_archive() {
-    archive=$top/target/staticlib/liboffice.a
-    ! stale "$archive" "$top/crates" "$top/crates.txt" || rattle staticlib office
-    [ -f "$archive" ] || die "rt staticlib office left no target/staticlib/liboffice.a"
+    archive=$top/target/staticlib/libpachallu.a
+    ! stale "$archive" "$top/crates" "$top/crates.txt" || rattle staticlib pachallu
+    [ -f "$archive" ] || die "rt staticlib pachallu left no target/staticlib/libpachallu.a"
 }
 
 # quoted WORD: the word as the shell reads it back
@@ -125,6 +125,6 @@ compile() {
     ! stale "$built/$1" "$top/host" "$archive" && return 0
     mkdir -p "$built"
     "$rustc" --edition 2021 --target "$triple" -C linker="$linker" -C opt-level=3 \
-        -L "${archive%/*}" -l static=office "$top/host/$1.rs" -o "$built/$1.new" || die "host/$1.rs could not be compiled and linked"
+        -L "${archive%/*}" -l static=pachallu "$top/host/$1.rs" -o "$built/$1.new" || die "host/$1.rs could not be compiled and linked"
     mv "$built/$1.new" "$built/$1"
 }

@@ -39,10 +39,10 @@ use Rattle.monitor.proofs.AnswerLaws.{turn-refuses, start-refused}
 use Rattle.effects.proofs.KeptLaws.{turn-one, refused-kept, store-kept, dump-kept}
 use Rattle.printed.specs.Printing.{PrintPromise}
 use Rattle.printed.proofs.RefusedLaws.{print-kept}
-use Rattle.office.specs.Told.{MakeForC, EventForC, MakeKept, EventKept}
-use Rattle.office.specs.declared.Made.{Made}
-use Rattle.office.specs.declared.Answered.{Answered}
-use Rattle.office.proofs.RefusedLaws.{make-kept, event-kept}
+use Rattle.pachallu.specs.Told.{MakeForC, EventForC, MakeKept, EventKept}
+use Rattle.pachallu.specs.declared.Made.{Made}
+use Rattle.pachallu.specs.declared.Answered.{Answered}
+use Rattle.pachallu.proofs.RefusedLaws.{make-kept, event-kept}
 
 pub record Demand1 : Type 0 where
   -- looking at a rule file: 1 to 10, and 0 in every place; its checks alone: 2 and 3 of a shape, 2 to 4 of a trailer, 3 to 10 of a table and pairs

@@ -16,9 +16,9 @@ use Rattle.effects.specs.declared.Answer.{Answer}
 use Rattle.effects.specs.declared.Answer.the-variants.{Taken, Refused}
 use Rattle.effects.proofs.KeptLaws.{refused-kept}
 use Rattle.monitor.proofs.AnswerLaws.{turn-refuses}
-use Rattle.office.specs.Told.{madeOf, MakeForC, runOf, answeredOf, EventForC, MakeKept, EventKept}
-use Rattle.office.specs.declared.Made.{Made}
-use Rattle.office.specs.declared.Answered.{Answered}
+use Rattle.pachallu.specs.Told.{madeOf, MakeForC, runOf, answeredOf, EventForC, MakeKept, EventKept}
+use Rattle.pachallu.specs.declared.Made.{Made}
+use Rattle.pachallu.specs.declared.Answered.{Answered}
 
 -- making a sheet
 pub make-kept : {rule out : List ℕ} {r : Made} {out′ : List ℕ} → MakeForC rule out r out′ → (r .refusal ≡ 0 → ⊥) → MakeKept out r out′

@@ -1,5 +1,5 @@
 // What C calls: numbers and byte slices. Each call is one of the house's, and its answer is told in numbers; include/pachallu.h declares them.
-ghost use Rattle.office.specs.Told.{MakeForC, FreshForC, EventForC};
+ghost use Rattle.pachallu.specs.Told.{MakeForC, FreshForC, EventForC};
 use effects::Answer;
 use effects::Run;
 use rule::EventNo;

@@ -1,9 +1,9 @@
 -- `pachallu_fresh` starts a run, and tells where it stands (ToldLaws).
 -- Assumes nothing.
 use borrow.Author.Needs.{needs}
-use Rattle.office.proofs.ToldLaws.{start-sound, start-refused}
-use Rattle.office.proofs.pachallu_fresh.Statement.{statement}
-use Rattle.office.proofs.pachallu_fresh.Tie as tie
+use Rattle.pachallu.proofs.ToldLaws.{start-sound, start-refused}
+use Rattle.pachallu.proofs.pachallu_fresh.Statement.{statement}
+use Rattle.pachallu.proofs.pachallu_fresh.Tie as tie
 
 fresh-requires : tie.Need-fresh-requires
 fresh-requires c κs = search needs

@@ -1,9 +1,9 @@
 -- `pachallu_event` offers the event, and tells its answer (ToldLaws).
 -- Assumes nothing.
 use borrow.Author.Needs.{needs}
-use Rattle.office.proofs.ToldLaws.{event-taken, event-refused}
-use Rattle.office.proofs.pachallu_event.Statement.{statement}
-use Rattle.office.proofs.pachallu_event.Tie as tie
+use Rattle.pachallu.proofs.ToldLaws.{event-taken, event-refused}
+use Rattle.pachallu.proofs.pachallu_event.Statement.{statement}
+use Rattle.pachallu.proofs.pachallu_event.Tie as tie
 
 event-requires : tie.Need-event-requires
 event-requires c κs = search needs

@@ -1,9 +1,9 @@
 -- `pachallu_make` makes the sheet, and tells what came of it (ToldLaws).
 -- Assumes nothing.
 use borrow.Author.Needs.{needs}
-use Rattle.office.proofs.ToldLaws.{made-done, made-refused}
-use Rattle.office.proofs.pachallu_make.Statement.{statement}
-use Rattle.office.proofs.pachallu_make.Tie as tie
+use Rattle.pachallu.proofs.ToldLaws.{made-done, made-refused}
+use Rattle.pachallu.proofs.pachallu_make.Statement.{statement}
+use Rattle.pachallu.proofs.pachallu_make.Tie as tie
 
 make-requires : tie.Need-make-requires
 make-requires c κs = search needs

@@ -19,7 +19,7 @@ use Rattle.effects.specs.declared.Run.{Run}
 use Rattle.monitor.specs.declared.Start.{Start}
 use Rattle.effects.specs.declared.Answer.{Answer}
 use Rattle.effects.specs.declared.Answer.the-variants.{Taken, Refused}
-use Rattle.office.specs.Told.{MakeForC, FreshForC, EventForC, runOf}
+use Rattle.pachallu.specs.Told.{MakeForC, FreshForC, EventForC, runOf}
 
 -- making a sheet
 module _ {rule out out′ : List ℕ} {w : Written} where

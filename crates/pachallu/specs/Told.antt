@@ -19,9 +19,9 @@ use Rattle.monitor.specs.Event.{EventPromise}
 use Rattle.effects.specs.declared.Run.{Run}
 use Rattle.effects.specs.declared.Answer.{Answer}
 use Rattle.effects.specs.declared.Answer.the-variants.{Taken, Refused}
-use Rattle.office.specs.declared.Made.{Made}
-use Rattle.office.specs.declared.Started.{Started}
-use Rattle.office.specs.declared.Answered.{Answered}
+use Rattle.pachallu.specs.declared.Made.{Made}
+use Rattle.pachallu.specs.declared.Started.{Started}
+use Rattle.pachallu.specs.declared.Answered.{Answered}
 
 -- making a sheet: 0 is "done"; a refused call has written nothing
 abbrev pub madeOf : Written → Made

@@ -6,10 +6,10 @@ use mathlib.Core.List.{List}
 use Rattle.making.proofs.OneAnswer.{make-one-answer}
 use Rattle.monitor.proofs.OneAnswer.{event-one-answer}
 use Rattle.effects.specs.declared.Answer.{Answer}
-use Rattle.office.specs.Told.{madeOf, answeredOf, runOf, MakeForC, FreshForC, EventForC}
-use Rattle.office.specs.declared.Made.{Made}
-use Rattle.office.specs.declared.Started.{Started}
-use Rattle.office.specs.declared.Answered.{Answered}
+use Rattle.pachallu.specs.Told.{madeOf, answeredOf, runOf, MakeForC, FreshForC, EventForC}
+use Rattle.pachallu.specs.declared.Made.{Made}
+use Rattle.pachallu.specs.declared.Started.{Started}
+use Rattle.pachallu.specs.declared.Answered.{Answered}
 
 -- the numbers and the sheet
 pub pachallu-make-one-answer : {rule sheet : List ℕ} {a b : Made} {s₁ s₂ : List ℕ} → MakeForC rule sheet a s₁ → MakeForC rule sheet b s₂
