@@ -6,9 +6,10 @@ use mathlib.Core.Path.{_≡_, refl, sym, _∙_}
 use mathlib.Core.Bool.{Bool, true, false, cond, _||_, or-true}
 use mathlib.Core.List.{List}
 use lib.Dec.{leb, ltb, eqb}
-use lib.ListN.{length, take, length-take}
+use lib.ListN.{length, getD, take, length-take}
 use lib.Seq.{length-take-le, take-all}
 use borrow.Author.Tests.{le-ltb, lt-ltb, le-leb, lt-leb, eq-eqb, ne-eqb, leb-false, ltb-false}
+use Rattle.rule.specs.Reach.{placeOf}
 use Rattle.rule.specs.Drawing.{stateNo}
 use Rattle.rule.specs.declared.StateNo.{StateNo}
 use Rattle.rule.specs.declared.EventNo.{EventNo}
@@ -64,8 +65,8 @@ module _ (h : Head) (sheet : List ℕ) (run : Run) (e : EventNo) (room : ℕ) wh
     pub state-fits : run .state .0 < h .states
     state-fits = leb-false _ _ (left-false (leb (h .states) (run .state .0)) (ltb room (run .held)) fits)
 
-    pub cell-inside : Sheet h ≡ openedOf sheet → e .0 < h .events → run .state .0 * h .events + e .0 < length sheet
-    cell-inside o a = place-inside sheet h o (run .state .0) state-fits (e .0) a
+    pub cell-inside : {i : ℕ} → i ≡ placeOf (h .events) (run .state .0) (e .0) → Sheet h ≡ openedOf sheet → e .0 < h .events → i < length sheet
+    cell-inside q o a = rw q (place-inside sheet h o (run .state .0) state-fits (e .0) a)
 
     pub code-13 : h .events ≤ e .0 → Refused Code ≡ lookOf h sheet run e room
     unfolding lookOf
@@ -75,6 +76,11 @@ module _ (h : Head) (sheet : List ℕ) (run : Run) (e : EventNo) (room : ℕ) wh
     pub code-fits : {t : Turn} → e .0 < h .events → t ≡ cellTurn (cellRead h sheet run e) (h .states) run e → t ≡ lookOf h sheet run e room
     unfolding lookOf
     code-fits a p = p ∙ rw (fits, lt-leb _ _ a)
+
+    -- the cell read at its place
+    pub place-fits : {t : Turn} {i : ℕ} → i ≡ placeOf (h .events) (run .state .0) (e .0) → e .0 < h .events
+        → t ≡ cellTurn (getD sheet i 0) (h .states) run e → t ≡ lookOf h sheet run e room
+    place-fits q a p = code-fits a (p ∙ rw q)
 
 -- the same by the rows of the table
 module _ {h : Head} (sheet : List ℕ) {run : Run} (e : EventNo) {room : ℕ} where

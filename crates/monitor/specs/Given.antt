@@ -4,6 +4,7 @@ use Prim.Native.Nat.{ℕ, _+_, _*_, _/_, _%_, _≤_, _<_}
 use mathlib.Core.Path.{_≡_}
 use mathlib.Core.List.{List}
 use lib.ListN.{length, getD}
+use Rattle.rule.specs.Reach.{placeOf}
 use Rattle.rule.specs.Drawing.{stateNo}
 use Rattle.rule.specs.declared.StateNo.{StateNo}
 use Rattle.rule.specs.declared.EventNo.{EventNo}
@@ -21,7 +22,7 @@ use Rattle.monitor.specs.Event.{operationOf}
 
 -- the cell that is read
 abbrev pub cellRead : Head → (sheet : List ℕ) → Run → EventNo → ℕ
-cellRead h sheet run e = getD sheet (run .state .0 * h .events + e .0) 0
+cellRead h sheet run e = getD sheet (placeOf (h .events) (run .state .0) (e .0)) 0
 
 -- not 12: state < N, and no more held than the memory is long
 pub record RunFits (h : Head) (run : Run) (room : ℕ) : Type 0 where
