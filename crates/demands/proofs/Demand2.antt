@@ -15,7 +15,7 @@ use Rattle.rule.specs.Stopping.{stopping}
 use Rattle.rule.specs.Classes.{OfClass}
 use Rattle.rule.specs.Constructions.{PublishedMove, PublishedStop}
 use Rattle.rule.specs.declared.Operation.{Operation}
-use Rattle.rule.specs.Refusals.{toldOf}
+use Rattle.rule.specs.Given.{NoRow, Given}
 use Rattle.rule.specs.declared.Refusal.{Refusal}
 use Rattle.rule.specs.declared.Rule.{Rule}
 use Rattle.rule.specs.declared.Verdict.the-variants.{Sound}
@@ -27,12 +27,11 @@ use Rattle.rulefile.specs.Reading.{verdictOn, readingOf}
 use Rattle.rulefile.specs.Writing.{verdictOf, WritePromise, Held}
 use Rattle.rulefile.specs.declared.Written.{Written}
 use Rattle.rulefile.specs.declared.Written.the-variants.{Done, Refused}
-use Rattle.rulefile.specs.Given.{Row, NoneBefore, NoRow}
 use Rattle.rulefile.proofs.AnswerLaws.{put-done}
 use Rattle.rulefile.proofs.PartsLaws.{sound-file}
 use Rattle.rulefile.proofs.WellLaws.{file-range, file-pairs, file-well}
 use Rattle.rulefile.proofs.RoundTrips.{read-written, written-read, same-rule}
-use Rattle.making.specs.Given.{making}
+use Rattle.making.specs.Given.{makingOrder, Making}
 use Rattle.making.specs.Making.{sheetOf, MakePromise}
 use Rattle.sheet.specs.Opening.{openedOf}
 use Rattle.sheet.specs.declared.Opened.the-variants.{Sheet}
@@ -58,9 +57,9 @@ pub record Demand2 (d : Drawing) (sheet : List ℕ) : Type 0 where
 -- every rule that the paper's table does not refuse has its sheet made, where there is room, and no other has; a refusal is that of the first row that holds
 pub record EveryRule : Type 0 where
   pub made : (f out : List ℕ) (w : Written) (out′ : List ℕ) → MakePromise f out w out′
-      → (n : ℕ) → (w ≡ Done n) ↔ (NoRow (making f (length out)) × (n ≡ length (sheetOf (drawingIn f))))
+      → (n : ℕ) → (w ≡ Done n) ↔ (NoRow (Making f (length out)) × (n ≡ length (sheetOf (drawingIn f))))
   pub refused : (f out : List ℕ) (w : Written) (out′ : List ℕ) → MakePromise f out w out′
-      → (x : Refusal) → (w ≡ Refused x) ↔ (NoneBefore (toldOf x .number) (making f (length out)) × Row (making f (length out)) x)
+      → (x : Refusal) → (w ≡ Refused x) ↔ Given (Making f (length out)) x makingOrder
 
 -- and its files come back as they were
 pub record RoundTrips : Type 0 where

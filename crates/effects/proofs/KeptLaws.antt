@@ -13,7 +13,7 @@ use Rattle.rule.specs.declared.Operation.{Operation}
 use Rattle.rule.specs.declared.Operation.the-variants.{Halt, Store, Dump}
 use Rattle.rule.specs.declared.Refusal.{Refusal}
 use Rattle.rule.specs.declared.Refusal.the-variants.{Memory, Room}
-use Rattle.effects.specs.Effects.{answerIn, memoryIn, outputIn, TurnPromise, StorePromise, DumpPromise, OneAnswer}
+use Rattle.effects.specs.Effects.{storeTurn, dumpTurn, answerIn, memoryIn, outputIn, TurnPromise, StorePromise, DumpPromise, OneAnswer}
 use Rattle.effects.specs.declared.Run.{Run}
 use Rattle.effects.specs.declared.Turn.{Turn}
 use Rattle.effects.specs.declared.Turn.the-variants.{Move, Refused as Away}
@@ -56,11 +56,11 @@ refused-as false y o next p = absurd (let z : _≡_ {A = ℕ} 0 1 = cc in omega 
 pub store-kept : (next : StateNo) (run : Run) (e : EventNo) (memory : List ℕ) (x : Refusal) (memory′ : List ℕ)
     → StorePromise next run e memory (Refused x) memory′ → (x ≡ Memory) × (memory′ ≡ memory)
 store-kept next run e memory x memory′ p =
-    let k = refused-kept _ run e memory _ x memory′ _ p in
-    (refused-as (leb (length memory) (run .held)) Memory Store next (k .0), k .1)
+    let a = away-of (storeTurn next (run .held) (length memory)) (run .held) x (p .answer) in
+    (refused-as (leb (length memory) (run .held)) Memory Store next a, p .memory-after ∙ ap (λ (s : Turn). memoryIn s (run .held) (e .0) memory) a)
 
 pub dump-kept : (next : StateNo) (held : List ℕ) (e : EventNo) (output : List ℕ) (x : Refusal) (output′ : List ℕ)
     → DumpPromise next held e output (Refused x) output′ → (x ≡ Room) × (output′ ≡ output)
 dump-kept next held e output x output′ p =
-    let k = refused-kept _ _ e held output x _ output′ p in
-    (refused-as (leb (length output) (length held)) Room Dump next (k .0), k .2)
+    let a = away-of (dumpTurn next (length held) (length output)) (length held) x (p .answer) in
+    (refused-as (leb (length output) (length held)) Room Dump next a, p .output-after ∙ ap (λ (s : Turn). outputIn s (length held) (e .0) held output) a)

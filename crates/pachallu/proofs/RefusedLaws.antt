@@ -8,14 +8,14 @@ use Rattle.rulefile.specs.Layout.{drawingIn}
 use Rattle.rulefile.specs.Reading.{verdictOn}
 use Rattle.rulefile.specs.declared.Written.{Written}
 use Rattle.rulefile.specs.declared.Written.the-variants.{Done, Refused as Unwritten}
-use Rattle.rulefile.proofs.AnswerLaws.{file-gives, put-refused, put-kept}
+use Rattle.rulefile.proofs.GivenLaws.{file-gives}
+use Rattle.rulefile.proofs.AnswerLaws.{put-refused, put-kept}
 use Rattle.making.specs.Making.{sheetOf, MakePromise}
-use Rattle.sheet.specs.Opening.{openedOf}
 use Rattle.monitor.specs.Event.{turnOf, EventPromise}
 use Rattle.effects.specs.declared.Answer.{Answer}
 use Rattle.effects.specs.declared.Answer.the-variants.{Taken, Refused}
 use Rattle.effects.proofs.KeptLaws.{refused-kept}
-use Rattle.monitor.proofs.AnswerLaws.{turn-refuses}
+use Rattle.monitor.proofs.GivenLaws.{turn-refuses}
 use Rattle.pachallu.specs.Told.{madeOf, MakeForC, runOf, answeredOf, EventForC, MakeKept, EventKept}
 use Rattle.pachallu.specs.declared.Made.{Made}
 use Rattle.pachallu.specs.declared.Answered.{Answered}
@@ -32,7 +32,7 @@ make-kept {rule} {out} {r} {out′} p n = by (p .answer) (p .promise) (p .told)
           written = ap (λ (x : Made). x .written) t;
           cause = x;
           told = ap (λ (x : Made). x .refusal) t;
-          number = put-refused 1 10 (verdictOn rule) (file-gives rule) _ _ x (sym (q .answer));
+          number = put-refused (verdictOn rule) (file-gives rule) _ _ x (sym (q .answer));
         }
 
 -- one event
@@ -54,5 +54,5 @@ event-kept {sheet} {state} {held} {event} {memory} {output} {r} {memory′} {out
           released = ap (λ (x : Answered). x .released) t;
           cause = x;
           told = ap (λ (x : Answered). x .refusal) t;
-          number = turn-refuses (openedOf sheet) sheet (runOf state held) (eventNo event) memory output x (k .0);
+          number = turn-refuses sheet (runOf state held) (eventNo event) memory output x (k .0);
         }

@@ -2,20 +2,20 @@
 -- Assumes nothing.
 use Prim.Native.Nat.{ℕ}
 use mathlib.Core.Path.{_≡_}
-use mathlib.Core.Logic.{_⊎_}
 use mathlib.Core.List.{List}
 use Rattle.rule.specs.Drawing.{stateNo, eventNo}
 use Rattle.rule.specs.Operations.{markOf}
 use Rattle.rule.specs.Refusals.{toldOf, Numbered}
 use Rattle.rule.specs.declared.Refusal.{Refusal}
-use Rattle.rule.specs.declared.Refusal.the-variants.{Room}
 use Rattle.rule.specs.declared.Verdict.{Verdict}
 use Rattle.rule.specs.declared.Verdict.the-variants.{Sound, Refused as Unsound}
 use Rattle.rulefile.specs.declared.Written.{Written}
 use Rattle.rulefile.specs.declared.Written.the-variants.{Done, Refused as Unwritten}
+use Rattle.making.specs.Given.{makingOrder}
 use Rattle.making.specs.Making.{MakePromise}
 use Rattle.monitor.specs.Fresh.{startOf}
 use Rattle.monitor.specs.Event.{EventPromise}
+use Rattle.monitor.specs.Given.{eventOrder}
 use Rattle.effects.specs.declared.Run.{Run}
 use Rattle.effects.specs.declared.Answer.{Answer}
 use Rattle.effects.specs.declared.Answer.the-variants.{Taken, Refused}
@@ -72,7 +72,7 @@ pub record MakeKept (out : List ℕ) (r : Made) (out′ : List ℕ) : Type 0 whe
   pub written : r .written ≡ 0
   pub cause : Refusal
   pub told : r .refusal ≡ toldOf cause .number
-  pub number : Numbered 1 10 cause ⊎ (cause ≡ Room)
+  pub number : Numbered makingOrder cause
 
 -- a refused event leaves the memory, the output and the run state as they were
 pub record EventKept (state held : ℕ) (memory output : List ℕ) (r : Answered) (memory′ output′ : List ℕ) : Type 0 where
@@ -83,4 +83,4 @@ pub record EventKept (state held : ℕ) (memory output : List ℕ) (r : Answered
   pub released : r .released ≡ 0
   pub cause : Refusal
   pub told : r .refusal ≡ toldOf cause .number
-  pub number : Numbered 11 16 cause
+  pub number : Numbered eventOrder cause

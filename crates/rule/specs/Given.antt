@@ -1,8 +1,9 @@
--- What each refusal from 5 to 10 says of the drawing, in plain words: "given exactly when" of the paper's table, with the places.
+-- What each refusal from 5 to 10 says of the drawing, in plain words, with the places; and "given exactly when" of the paper's table.
 -- Assumes nothing.
 use Prim.Native.Nat.{ℕ, _≤_, _<_}
 use mathlib.Core.Path.{_≡_}
 use mathlib.Core.Logic.{_⊎_}
+use mathlib.Core.List.{List, _∷_}
 use Rattle.rule.specs.Drawing.{Drawing, states, events, count, next, pairAt}
 use Rattle.rule.specs.Published.{In, Out, ReachesNone}
 use Rattle.rule.specs.declared.Refusal.{Refusal}
@@ -90,3 +91,24 @@ pub record StopsBy (d : Drawing) (q i : ℕ) : Type 0 where
 pub record BothEmpty (d : Drawing) (i : ℕ) : Type 0 where
   pub no-R : pairAt d i .r ≡ 0
   pub no-P : pairAt d i .p ≡ 0
+
+-- a call's table: each row has its number, the refusal that it gives, and when it holds
+abbrev pub Table : Type 1
+Table = ℕ → Refusal → Type 0
+
+-- no row with the number holds; no row holds
+abbrev pub NoneAt : Table → ℕ → Type 0
+NoneAt T n = (x : Refusal) → T n x → ⊥
+
+abbrev pub NoRow : Table → Type 0
+NoRow T = (n : ℕ) → NoneAt T n
+
+-- "given exactly when": of the numbers in the call's own order of checking, the first that has a row that holds gives it
+pub data Given (T : Table) (x : Refusal) : (order : List ℕ) → Type 0 where
+  here : {n : ℕ} {order : List ℕ} → T n x → Given T x (n ∷ order)
+  later : {n : ℕ} {order : List ℕ} → NoneAt T n → Given T x order → Given T x (n ∷ order)
+
+-- the rows of a table, and one more: n gives x where A holds
+pub data After (T : Table) (n : ℕ) (x : Refusal) (A : Type 0) : ℕ → Refusal → Type 0 where
+  row : {m : ℕ} {y : Refusal} → T m y → After T n x A m y
+  last : A → After T n x A n x

@@ -11,7 +11,7 @@ use lib.Dec.{leb, eqb}
 use lib.ListN.{length}
 use borrow.Author.Tests.{lt-leb, le-ltb, ne-eqb, leb-false, ltb-false, eqb-false, not-true, not-false}
 use Rattle.rule.specs.Reach.{placeOf}
-use Rattle.rule.proofs.BoolLaws.{Says, and-says, eq-says, le-says, lt-says, in-words}
+use Rattle.rule.proofs.BoolLaws.{Says, and-says, eq-says, le-says, lt-says, in-words, not-says}
 use Rattle.sheet.specs.Given.{BadSheet, short, unmarked, no-states, many-states, no-events, many-events, no-initial, wrong-distance, wrong-length, GoodSheet}
 use Rattle.sheet.specs.Opening.{back, headIn, wholeSize, inRange, opens, openedOf}
 use Rattle.sheet.specs.declared.Head.{Head}
@@ -104,6 +104,9 @@ chose-not g false e = refl
 pub bad-refused : {l : List ℕ} → BadSheet l → Refused ≡ openedOf l
 unfolding openedOf
 bad-refused b = rw (bad-shut b)
+
+pub shut-says : (l : List ℕ) → Says (not (opens l)) (BadSheet l)
+shut-says l = in-words (not-says (opens l)) (shut-bad l) bad-shut
 
 pub refused-when : (l : List ℕ) → (openedOf l ≡ Refused) ↔ BadSheet l
 unfolding openedOf
