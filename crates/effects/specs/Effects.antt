@@ -1,11 +1,13 @@
 -- What an operation does: to the run state, to the memory and to the output.
 -- Assumes nothing.
-use Prim.Native.Nat.{ℕ, _+_}
+use Prim.Native.Nat.{ℕ, _+_, _≤_, _<_}
 use mathlib.Core.Path.{_≡_}
 use mathlib.Core.Bool.{cond}
 use mathlib.Core.List.{List, [], _∷_, _++_}
 use lib.ListN.{length, take, drop, set}
 use lib.Dec.{leb}
+use Rattle.rule.specs.Refusals.{tell, toldOf}
+use Rattle.rule.specs.declared.Told.{Told}
 use Rattle.rule.specs.declared.StateNo.{StateNo}
 use Rattle.rule.specs.declared.EventNo.{EventNo}
 use Rattle.rule.specs.declared.Operation.the-variants.{Halt, Store, Dump}
@@ -15,6 +17,7 @@ use Rattle.effects.specs.declared.Turn.{Turn}
 use Rattle.effects.specs.declared.Turn.the-variants.{Move, Refused}
 use Rattle.effects.specs.declared.Answer.{Answer}
 use Rattle.effects.specs.declared.Answer.the-variants.{Taken, Refused as Declined}
+use Rattle.rule.specs.Given.{Table, NoRows, After}
 
 -- a run at a state with nothing held
 abbrev pub freshRun : StateNo → Run
@@ -40,6 +43,11 @@ answerIn (Refused r) held = Declined r
 answerIn (Move Halt t) held = Taken Halt (record { state = t; held = held }) 0
 answerIn (Move Store t) held = Taken Store (record { state = t; held = held + 1 }) 0
 answerIn (Move Dump t) held = Taken Dump (record { state = t; held = 0 }) (held + 1)
+
+-- what an answer tells: 0 where the event was taken, else the refusal's number and places
+abbrev pub answerTold : Answer → Told
+answerTold (Taken o run n) = tell 0 0 0
+answerTold (Declined r) = toldOf r
 
 -- the memory after it: store writes one byte, at the place after the held ones
 abbrev pub memoryIn : Turn → (held code : ℕ) → (memory : List ℕ) → List ℕ
@@ -70,6 +78,19 @@ pub record StorePromise (next : StateNo) (run : Run) (e : EventNo) (memory : Lis
 pub record DumpPromise (next : StateNo) (held : List ℕ) (e : EventNo) (output : List ℕ) (r : Answer) (output′ : List ℕ) : Type 0 where
   pub answer : r ≡ answerIn (dumpTurn next (length held) (length output)) (length held)
   pub output-after : output′ ≡ outputIn (dumpTurn next (length held) (length output)) (length held) (e .0) held output
+
+-- the tables of the two: a store gives 15 where the memory is full, a dump 16 where held + 1 is over the output's length
+abbrev pub storeOrder : List ℕ
+storeOrder = 15 ∷ []
+
+abbrev pub StoreTable : (held room : ℕ) → Table
+StoreTable held room = After NoRows 15 Memory (room ≤ held)
+
+abbrev pub dumpOrder : List ℕ
+dumpOrder = 16 ∷ []
+
+abbrev pub DumpTable : (held space : ℕ) → Table
+DumpTable held space = After NoRows 16 Room (space < held + 1)
 
 -- exactly one answer, with exactly one content of the memory and the output, keeps the promise
 pub record OneAnswer (Promise : Answer → List ℕ → List ℕ → Type 0) : Type 0 where

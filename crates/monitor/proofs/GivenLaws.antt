@@ -9,7 +9,7 @@ use mathlib.Core.Logic.{_⊎_, inl, inr, ⊎-elim, _↔_, Iff·trans}
 use lib.ListN.{length}
 use lib.Dec.{leb, ltb, eqb}
 use Rattle.rule.specs.Refusals.{Numbered, refuseIf}
-use Rattle.rule.specs.Given.{Table, NoRow, Given}
+use Rattle.rule.specs.Given.{Table, NoRow, Given, done, refused, Ends}
 use Rattle.rule.specs.declared.StateNo.{StateNo}
 use Rattle.rule.specs.declared.EventNo.{EventNo}
 use Rattle.rule.specs.declared.Operation.{Operation}
@@ -25,12 +25,11 @@ use Rattle.sheet.specs.Given.{BadSheet}
 use Rattle.sheet.specs.Opening.{headIn, opens, openedOf}
 use Rattle.sheet.specs.declared.Opened.the-variants.{Sheet, Refused as Shut}
 use Rattle.sheet.proofs.OpeningLaws.{shut-says}
-use Rattle.effects.specs.Effects.{roomTurn}
+use Rattle.effects.specs.Effects.{roomTurn, answerIn, answerTold, memoryIn, outputIn}
 use Rattle.effects.specs.declared.Run.{Run}
 use Rattle.effects.specs.declared.Turn.{Turn}
 use Rattle.effects.specs.declared.Turn.the-variants.{Move, Refused}
 use Rattle.effects.specs.declared.Answer.{Answer}
-use Rattle.effects.specs.declared.Answer.the-variants.{Refused as Declined}
 use Rattle.monitor.specs.Event.{cellTurn, lookOf, turnBy, turnOf, EventPromise}
 use Rattle.monitor.specs.Given.{cellRead, operationRead, nextRead, eventOrder, bad-sheet, EventRow, opening, state-past, held-past, event-past}
 use Rattle.monitor.specs.Given.{operation-3, next-past, memory-full, output-short}
@@ -181,10 +180,18 @@ module _ (sheet : List ℕ) (run : Run) (e : EventNo) (memory output : List ℕ)
     λ p. turns .moves (sound-exactly event-within (turns .rows) .1 (p .0)) ∙ rw (p .1, p .2),
   )
 
-  -- a refused event has one of the numbers of the order, and changes nothing
+  -- a refused event has one of the numbers of the order
   pub turn-refuses : (x : Refusal) → turnOf sheet run e memory output ≡ Refused x → Numbered eventOrder x
   turn-refuses x p = numbers event-within (turns .rows) x (saying-refused _ x .0 p)
 
-  pub refused-kept : {x : Refusal} {r : Answer} {memory′ output′ : List ℕ} → turnOf sheet run e memory output ≡ Refused x
-      → EventPromise sheet run e memory output r memory′ output′ → (r ≡ Declined x) × (memory′ ≡ memory) × (output′ ≡ output)
-  refused-kept p h = (h .answer ∙ rw p, h .memory-after ∙ rw p, h .output-after ∙ rw p)
+  -- how an event ends: a refused one leaves the memory and the output as they were
+  pub event-ends : {r : Answer} {memory′ output′ : List ℕ} → EventPromise sheet run e memory output r memory′ output′
+      → Ends T eventOrder (answerTold r) ((memory′ ≡ memory) × (output′ ≡ output))
+  event-ends {r} {memory′} {output′} p = by _ refl (p .answer) (p .memory-after) (p .output-after)
+    where
+      by : (t : Turn) → turnOf sheet run e memory output ≡ t → r ≡ answerIn t (run .held) → memory′ ≡ memoryIn t (run .held) (e .0) memory
+          → output′ ≡ outputIn t (run .held) (e .0) memory output → Ends T eventOrder (answerTold r) ((memory′ ≡ memory) × (output′ ≡ output))
+      by (Refused x) q a m o = rw a (record { tells = refused (refused-when x .0 q); rest = λ n. (m, o) })
+      by (Move Halt s) q a m o = rw a (record { tells = done (taken-when Halt s .0 q .0); rest = λ n. absurd (n refl) })
+      by (Move Store s) q a m o = rw a (record { tells = done (taken-when Store s .0 q .0); rest = λ n. absurd (n refl) })
+      by (Move Dump s) q a m o = rw a (record { tells = done (taken-when Dump s .0 q .0); rest = λ n. absurd (n refl) })

@@ -6,6 +6,8 @@ use mathlib.Core.Logic.{_⊎_}
 use mathlib.Core.List.{List, _∷_}
 use Rattle.rule.specs.Drawing.{Drawing, states, events, count, next, pairAt}
 use Rattle.rule.specs.Published.{In, Out, ReachesNone}
+use Rattle.rule.specs.Refusals.{tell, toldOf}
+use Rattle.rule.specs.declared.Told.{Told}
 use Rattle.rule.specs.declared.Refusal.{Refusal}
 use Rattle.rule.specs.declared.Verdict.{Verdict}
 use Rattle.rule.specs.declared.Verdict.the-variants.{Sound, Refused}
@@ -112,3 +114,16 @@ pub data Given (T : Table) (x : Refusal) : (order : List ℕ) → Type 0 where
 pub data After (T : Table) (n : ℕ) (x : Refusal) (A : Type 0) : ℕ → Refusal → Type 0 where
   row : {m : ℕ} {y : Refusal} → T m y → After T n x A m y
   last : A → After T n x A n x
+
+-- a call that looks at nothing has no row
+pub data NoRows : ℕ → Refusal → Type 0 where
+
+-- what a call tells: 0 and no places where no row of its table holds, else the number and the places of the first row that holds, in its order of checking
+pub data Tells (T : Table) (order : List ℕ) : Told → Type 0 where
+  done : NoRow T → Tells T order (tell 0 0 0)
+  refused : {x : Refusal} → Given T x order → Tells T order (toldOf x)
+
+-- how a call ends: it tells that, and where it is refused the rest is so
+pub record Ends (T : Table) (order : List ℕ) (told : Told) (Rest : Type 0) : Type 0 where
+  pub tells : Tells T order told
+  pub rest : (told .number ≡ 0 → ⊥) → Rest

@@ -39,6 +39,11 @@ toldOf (Cell s e) = tell 14 (s .0) (e .0)
 toldOf Memory = tell 15 0 0
 toldOf Room = tell 16 0 0
 
+-- what a verdict tells: 0 where it is sound, else the refusal's number and places
+abbrev pub verdictTold : Verdict → Told
+verdictTold Sound = tell 0 0 0
+verdictTold (Refused r) = toldOf r
+
 -- n is one of these numbers; the refusal has one of them
 abbrev pub among : ℕ → List ℕ → Bool
 among n [] = false

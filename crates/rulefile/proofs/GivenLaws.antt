@@ -4,14 +4,14 @@ use Prim.Native.Nat.{ℕ, _<_}
 use native.Mathlib.Omega.{arith}
 use mathlib.Core.Path.{_≡_, refl, _∙_, subst}
 use mathlib.Core.Bool.{Bool, true, false, not, cond}
-use mathlib.Core.List.{List}
+use mathlib.Core.List.{List, []}
 use mathlib.Core.Logic.{inr, _↔_, Iff·trans, Iff·and, Iff·rfl}
 use lib.ListN.{length}
 use lib.Seq.{length-take-le}
 use lib.Dec.{leb}
-use Rattle.rule.specs.Drawing.{drawn, ruleOf}
-use Rattle.rule.specs.Refusals.{among, refuseIf, orElse, firstOf}
-use Rattle.rule.specs.Given.{Table, NoRow, Given}
+use Rattle.rule.specs.Drawing.{drawn, ruleOf, zeroRule}
+use Rattle.rule.specs.Refusals.{among, refuseIf, orElse, firstOf, verdictTold}
+use Rattle.rule.specs.Given.{Table, NoRow, Given, done, refused, Ends}
 use Rattle.rule.specs.declared.Rule.{Rule}
 use Rattle.rule.specs.declared.Refusal.{Refusal}
 use Rattle.rule.specs.declared.Refusal.the-variants.{Frame, Room}
@@ -22,8 +22,8 @@ use Rattle.rule.proofs.NumberLaws.{among-says, Gives}
 use Rattle.rule.proofs.RefusalLaws.{not-both}
 use Rattle.rule.proofs.TableLaws.{Within, Answers, decided, then, as-rows, sound-exactly, numbers, after-within, after}
 use Rattle.rulefile.specs.Layout.{drawingIn, trailerIn, fileOf}
-use Rattle.rulefile.specs.Reading.{verdictOn, readingBy, readingOf}
-use Rattle.rulefile.specs.Writing.{verdictOf, settledBy, PutPromise, WritePromise}
+use Rattle.rulefile.specs.Reading.{verdictOn, readingBy, readingOf, partsBy, partsOf}
+use Rattle.rulefile.specs.Writing.{verdictOf, settledBy, PutPromise, WritePromise, writtenTold}
 use Rattle.rulefile.specs.Given.{BadFrame, BadDistance, LongNote, drawingOrder, DrawingRow, readingOrder, Reading, at-1, drawing, Put, putOrder}
 use Rattle.rulefile.specs.Given.{writingOrder, Writing}
 use Rattle.rulefile.specs.declared.Written.{Written}
@@ -31,6 +31,7 @@ use Rattle.rulefile.specs.declared.Written.the-variants.{Done, Refused a
 use Rattle.rulefile.proofs.ListLaws.{length-upTo}
 use Rattle.rulefile.proofs.FaultLaws.{fails-say, le-fails, frame-fails, distance-fails}
 use Rattle.rulefile.proofs.RowLaws.{drawing-within, shape-rows}
+use Rattle.rulefile.proofs.AnswerLaws.{put-kept}
 
 -- the verdict on a file, and on a rule by value
 
@@ -107,6 +108,15 @@ module _ {T : Table} {order : List ℕ} {v : Verdict} {bytes out : List ℕ} {w 
   pub put-does : (n : ℕ) → (w ≡ Done n) ↔ (NoRow call × (n ≡ length bytes))
   put-does n = rw said (Iff·trans (spoken-done (length bytes) _ n) (Iff·and (sound-exactly call-within all) Iff·rfl))
 
+  -- how such a call ends: a refused one leaves the output as it was
+  pub put-ends : Ends call (putOrder order) (writtenTold w) (out′ ≡ out)
+  put-ends = by w kept put-gives put-does
+    where
+      by : (w : Written) → PutPromise v bytes out w out′ → ((x : Refusal) → (w ≡ Unwritten x) ↔ Given call x (putOrder order))
+          → ((n : ℕ) → (w ≡ Done n) ↔ (NoRow call × (n ≡ length bytes))) → Ends call (putOrder order) (writtenTold w) (out′ ≡ out)
+      by (Done n) kept gives does = record { tells = done (does n .0 refl .0); rest = λ n. absurd (n refl) }
+      by (Unwritten x) kept gives does = record { tells = refused (gives x .0 refl); rest = λ n. put-kept v bytes out x out′ kept }
+
 -- reading: of every file
 
 module _ (f : List ℕ) where
@@ -126,6 +136,24 @@ module _ (f : List ℕ) where
   pub read-sound : (readingOf f .verdict ≡ Sound) ↔ NoRow (Reading f)
   read-sound = sound-exactly (file-within f) read-rows
 
+  -- looking at it and reading it end so: refused, 0 in every place
+  pub look-ends : Ends (Reading f) readingOrder (verdictTold (partsOf f .verdict)) (partsOf f ≡ partsBy (partsOf f .verdict) [])
+  unfolding partsOf
+  look-ends = by (verdictOn f) (file-answers f)
+    where
+      by : (v : Verdict) → Answers (Reading f) readingOrder v → Ends (Reading f) readingOrder (verdictTold (partsBy v f .verdict)) (partsBy v f ≡ partsBy (partsBy v f .verdict) [])
+      by Sound a = record { tells = done (sound-exactly (file-within f) a .0 refl); rest = λ n. absurd (n refl) }
+      by (Refused x) a = record { tells = refused (a .gives x .0 refl); rest = λ n. refl }
+
+  pub read-ends : Ends (Reading f) readingOrder (verdictTold (readingOf f .verdict)) (readingOf f .rule ≡ zeroRule)
+  unfolding readingOf
+  read-ends = by (verdictOn f) (file-answers f)
+    where
+      by : (v : Verdict) → Answers (Reading f) readingOrder v
+          → Ends (Reading f) readingOrder (verdictTold (readingBy v (ruleOf (drawingIn f)) .verdict)) (readingBy v (ruleOf (drawingIn f)) .rule ≡ zeroRule)
+      by Sound a = record { tells = done (sound-exactly (file-within f) a .0 refl); rest = λ n. absurd (n refl) }
+      by (Refused x) a = record { tells = refused (a .gives x .0 refl); rest = λ n. refl }
+
 -- writing: of any answer that the promise allows, and a rule by value, which carries eight pairs
 
 module _ (r : Rule) {out : List ℕ} {w : Written} {out′ : List ℕ} (eight : length (r .pairs) ≡ 8) (kept : WritePromise r out w out′) where
@@ -135,3 +163,6 @@ module _ (r : Rule) {out : List ℕ} {w : Written} {out′ : List ℕ} (eight : 
   -- done exactly when no row holds; the room is one of them
   pub write-done : (n : ℕ) → (w ≡ Done n) ↔ (NoRow (Writing r (length out)) × (n ≡ length (fileOf (drawn r))))
   write-done = put-does (drawing-within _ _ _) refl (rule-answers r eight) kept
+
+  pub write-ends : Ends (Writing r (length out)) writingOrder (writtenTold w) (out′ ≡ out)
+  write-ends = put-ends (drawing-within _ _ _) refl (rule-answers r eight) kept
