@@ -38,7 +38,7 @@ use Rattle.effects.specs.declared.Answer.the-variants.{Refused}
 use Rattle.monitor.proofs.AnswerLaws.{turn-refuses, start-refused}
 use Rattle.effects.proofs.KeptLaws.{turn-one, refused-kept, store-kept, dump-kept}
 use Rattle.printed.specs.Printing.{PrintPromise}
-use Rattle.printed.proofs.RefusedLaws.{print-kept}
+use Rattle.printed.proofs.GivenLaws.{print-kept}
 use Rattle.pachallu.specs.Told.{MakeForC, EventForC, MakeKept, EventKept}
 use Rattle.pachallu.specs.declared.Made.{Made}
 use Rattle.pachallu.specs.declared.Answered.{Answered}
