@@ -1,5 +1,6 @@
 -- Demand 1 holds (specs/Demand1). Assumes nothing.
 use Rattle.rule.specs.Drawing.{drawn}
+use Rattle.rule.specs.declared.Verdict.the-variants.{Sound}
 use Rattle.checks.proofs.HeldLaws.{checked-gives}
 use Rattle.trailer.proofs.NumberLaws.{shape-gives, head-gives}
 use Rattle.rulefile.specs.Layout.{drawingIn, fileOf}
@@ -13,7 +14,8 @@ use Rattle.effects.proofs.KeptLaws.{turn-one, store-ends, dump-ends}
 use Rattle.monitor.specs.Event.{turnOf}
 use Rattle.monitor.proofs.FreshLaws.{open-ends, fresh-ends}
 use Rattle.monitor.proofs.GivenLaws.{event-ends}
-use Rattle.printed.proofs.RefusedLaws.{print-kept}
+use Rattle.printed.specs.Printing.{textOf}
+use Rattle.printed.proofs.GivenLaws.{print-ends}
 use Rattle.pachallu.proofs.EndsLaws.{c-make-ends, c-fresh-ends, c-event-ends}
 use Rattle.demands.specs.Demand1.{Demand1}
 
@@ -32,7 +34,8 @@ demand-1 =
       event = λ sheet run e memory output r memory′ output′ p. event-ends sheet run e memory output p;
       store = λ next run e memory r memory′ p. store-ends p;
       dump = λ next held e output r output′ p. dump-ends p;
-      print-refused = print-kept;
+      one-print = λ f out. put-one Sound (textOf f) out;
+      print = λ f out w out′ p. print-ends f p;
       c-make = λ rule out r out′ p. c-make-ends p;
       c-fresh = λ sheet r p. c-fresh-ends p;
       c-event = λ sheet state held event memory output r memory′ output′ p. c-event-ends p;

@@ -19,7 +19,6 @@ use Rattle.rule.specs.declared.Pair.{Pair}
 use Rattle.rule.specs.declared.Rule.{Rule}
 use Rattle.rule.specs.declared.Shape.{Shape}
 use Rattle.rule.specs.declared.Refusal.{Refusal}
-use Rattle.rule.specs.declared.Refusal.the-variants.{Room}
 use Rattle.rule.specs.declared.Verdict.the-variants.{Refused as Unsound}
 use Rattle.checks.specs.Checked.{checkedOf, checkedOrder}
 use Rattle.trailer.specs.Conditions.{shapeConditions, shapeOrder, headConditions, headOrder}
@@ -28,7 +27,6 @@ use Rattle.rulefile.specs.Given.{Reading, readingOrder, Writing, writingOrder}
 use Rattle.rulefile.specs.Reading.{partsBy, partsOf, readingOf}
 use Rattle.rulefile.specs.Writing.{Held, WritePromise, OneWritten, writtenTold}
 use Rattle.rulefile.specs.declared.Written.{Written}
-use Rattle.rulefile.specs.declared.Written.the-variants.{Refused as Unwritten}
 use Rattle.making.specs.Given.{Making, makingOrder}
 use Rattle.making.specs.Making.{MakePromise}
 use Rattle.sheet.specs.Opening.{openedOf, openedTold}
@@ -39,7 +37,7 @@ use Rattle.effects.specs.declared.Answer.{Answer}
 use Rattle.monitor.specs.Fresh.{startOf}
 use Rattle.monitor.specs.Event.{EventPromise}
 use Rattle.monitor.specs.Given.{FreshRow, freshOrder, EventRow, eventOrder}
-use Rattle.printed.specs.Printing.{PrintPromise}
+use Rattle.printed.specs.Printing.{PrintPromise, Printing, printingOrder}
 use Rattle.pachallu.specs.Told.{MakeForC, FreshForC, EventForC, runOf, madeTold, startedTold, answeredTold, MakeKept, FreshKept, EventKept}
 use Rattle.pachallu.specs.declared.Made.{Made}
 use Rattle.pachallu.specs.declared.Started.{Started}
@@ -69,8 +67,9 @@ pub record Demand1 : Type 0 where
       → Ends (StoreTable (run .held) (length memory)) storeOrder (answerTold r) (memory′ ≡ memory)
   pub dump : (next : StateNo) (held : List ℕ) (e : EventNo) (output : List ℕ) (r : Answer) (output′ : List ℕ) → DumpPromise next held e output r output′
       → Ends (DumpTable (length held) (length output)) dumpOrder (answerTold r) (output′ ≡ output)
-  -- printing: 16, and the output as it was
-  pub print-refused : (f out : List ℕ) (x : Refusal) (out′ : List ℕ) → PrintPromise f out (Unwritten x) out′ → (x ≡ Room) × (out′ ≡ out)
+  -- a rule's monitor, printed: 16; refused, the output as it was
+  pub one-print : (f out : List ℕ) → OneWritten (PrintPromise f out)
+  pub print : (f out : List ℕ) (w : Written) (out′ : List ℕ) → PrintPromise f out w out′ → Ends (Printing f (length out)) printingOrder (writtenTold w) (out′ ≡ out)
   -- from C the same three calls, told in numbers; refused, every buffer and the run state that was given are as they were
   pub c-make : (rule out : List ℕ) (r : Made) (out′ : List ℕ) → MakeForC rule out r out′
       → Ends (Making rule (length out)) makingOrder (madeTold r) (MakeKept out r out′)
