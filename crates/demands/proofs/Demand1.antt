@@ -39,10 +39,10 @@ use Rattle.monitor.proofs.AnswerLaws.{turn-refuses, start-refused}
 use Rattle.effects.proofs.KeptLaws.{turn-one, refused-kept, store-kept, dump-kept}
 use Rattle.printed.specs.Printing.{PrintPromise}
 use Rattle.printed.proofs.GivenLaws.{print-kept}
-use Rattle.pachallu.specs.Told.{MakeForC, EventForC, MakeKept, EventKept}
+use Rattle.pachallu.specs.Told.{MakeForC, PrintForC, EventForC, PutKept, EventKept}
 use Rattle.pachallu.specs.declared.Made.{Made}
 use Rattle.pachallu.specs.declared.Answered.{Answered}
-use Rattle.pachallu.proofs.RefusedLaws.{make-kept, event-kept}
+use Rattle.pachallu.proofs.RefusedLaws.{make-kept, print-kept as c-print-kept, event-kept}
 
 pub record Demand1 : Type 0 where
   -- looking at a rule file: 1 to 10, and 0 in every place; its checks alone: 2 and 3 of a shape, 2 to 4 of a trailer, 3 to 10 of a table and pairs
@@ -76,7 +76,8 @@ pub record Demand1 : Type 0 where
   -- printing: 16, and the output as it was
   pub print-refused : (f out : List ℕ) (x : Refusal) (out′ : List ℕ) → PrintPromise f out (Unwritten x) out′ → (x ≡ Room) × (out′ ≡ out)
   -- and from C: a refusal is not 0, is a number of the table, and leaves every buffer and the run state that was given
-  pub c-make : (rule out : List ℕ) (r : Made) (out′ : List ℕ) → MakeForC rule out r out′ → (r .refusal ≡ 0 → ⊥) → MakeKept out r out′
+  pub c-make : (rule out : List ℕ) (r : Made) (out′ : List ℕ) → MakeForC rule out r out′ → (r .refusal ≡ 0 → ⊥) → PutKept 1 10 out r out′
+  pub c-print : (rule out : List ℕ) (r : Made) (out′ : List ℕ) → PrintForC rule out r out′ → (r .refusal ≡ 0 → ⊥) → PutKept 16 16 out r out′
   pub c-event : (sheet : List ℕ) (state held event : ℕ) (memory output : List ℕ) (r : Answered) (memory′ output′ : List ℕ)
       → EventForC sheet state held event memory output r memory′ output′ → (r .refusal ≡ 0 → ⊥) → EventKept state held memory output r memory′ output′
 
@@ -107,6 +108,7 @@ demand-1 =
       store-refused = store-kept;
       dump-refused = dump-kept;
       print-refused = print-kept;
-      c-make = λ rule out r out′ p n. make-kept p n;
+      c-make = λ rule out r out′ p n. make-kept rule p n;
+      c-print = λ rule out r out′ p n. c-print-kept rule p n;
       c-event = λ sheet state held event memory output r memory′ output′ p n. event-kept p n;
     }

@@ -14,6 +14,7 @@ use Rattle.rule.specs.declared.Verdict.the-variants.{Sound, Refused as Unsound}
 use Rattle.rulefile.specs.declared.Written.{Written}
 use Rattle.rulefile.specs.declared.Written.the-variants.{Done, Refused as Unwritten}
 use Rattle.making.specs.Making.{MakePromise}
+use Rattle.printed.specs.Printing.{PrintPromise}
 use Rattle.monitor.specs.Fresh.{startOf}
 use Rattle.monitor.specs.Event.{EventPromise}
 use Rattle.effects.specs.declared.Run.{Run}
@@ -23,15 +24,22 @@ use Rattle.pachallu.specs.declared.Made.{Made}
 use Rattle.pachallu.specs.declared.Started.{Started}
 use Rattle.pachallu.specs.declared.Answered.{Answered}
 
--- making a sheet: 0 is "done"; a refused call has written nothing
+-- putting bytes into an output: 0 is "done"; a refused call has written nothing
 abbrev pub madeOf : Written → Made
 madeOf (Done n) = record { refusal = 0; a = 0; b = 0; written = n }
 madeOf (Unwritten r) = record { refusal = toldOf r .number; a = toldOf r .a; b = toldOf r .b; written = 0 }
 
-pub record MakeForC (rule out : List ℕ) (r : Made) (out′ : List ℕ) : Type 0 where
+pub record PutForC (Promise : Written → List ℕ → Type 0) (r : Made) (out′ : List ℕ) : Type 0 where
   pub answer : Written
-  pub promise : MakePromise rule out answer out′
+  pub promise : Promise answer out′
   pub told : r ≡ madeOf answer
+
+-- making a sheet, and printing a monitor
+abbrev pub MakeForC : List ℕ → List ℕ → Made → List ℕ → Type 0
+MakeForC rule sheet = PutForC (MakePromise rule sheet)
+
+abbrev pub PrintForC : List ℕ → List ℕ → Made → List ℕ → Type 0
+PrintForC rule text = PutForC (PrintPromise rule text)
 
 -- a fresh start
 abbrev pub startedOf : Verdict → Run → Started
@@ -66,13 +74,13 @@ pub record EventForC (sheet : List ℕ) (state held event : ℕ) (memory output 
   pub promise : EventPromise sheet (runOf state held) (eventNo event) memory output answer memory′ output′
   pub told : r ≡ answeredOf answer (runOf state held)
 
--- what a refused call leaves: the output as it was and nothing written, refused by a number of the table
-pub record MakeKept (out : List ℕ) (r : Made) (out′ : List ℕ) : Type 0 where
+-- what a refused call leaves: the output as it was and nothing written, refused by one of the numbers lo to hi of the table, or 16
+pub record PutKept (lo hi : ℕ) (out : List ℕ) (r : Made) (out′ : List ℕ) : Type 0 where
   pub output-kept : out′ ≡ out
   pub written : r .written ≡ 0
   pub cause : Refusal
   pub told : r .refusal ≡ toldOf cause .number
-  pub number : Numbered 1 10 cause ⊎ (cause ≡ Room)
+  pub number : Numbered lo hi cause ⊎ (cause ≡ Room)
 
 -- a refused event leaves the memory, the output and the run state as they were
 pub record EventKept (state held : ℕ) (memory output : List ℕ) (r : Answered) (memory′ output′ : List ℕ) : Type 0 where
