@@ -29,7 +29,7 @@ use Rattle.rulefile.specs.declared.Written.{Written}
 use Rattle.rulefile.specs.declared.Written.the-variants.{Done, Refused}
 use Rattle.rulefile.proofs.AnswerLaws.{put-done}
 use Rattle.rulefile.proofs.PartsLaws.{sound-file}
-use Rattle.rulefile.proofs.WellLaws.{file-range, file-pairs, file-well}
+use Rattle.rulefile.proofs.WellLaws.{file-shaped, file-pairs, file-well}
 use Rattle.rulefile.proofs.RoundTrips.{read-written, written-read, same-rule}
 use Rattle.making.specs.Given.{makingOrder, Making}
 use Rattle.making.specs.Making.{sheetOf, MakePromise}
@@ -78,7 +78,7 @@ demand-2 file sheet made =
     let F = sound-formed file (put .sound) in
     let e : sheet ≡ sheetOf d = made .front ∙ put .front in
     let g = conditions-sound d (S .sound) in
-    let C = of-class d (file-pairs file S) (file-range file S) (g .2) (g .3) in
+    let C = of-class d (file-pairs file S) (file-shaped file S) (g .2) (g .3) in
     record {
       of-class = C;
       opened = rw e (sheet-opens F);

@@ -11,42 +11,27 @@ use Rattle.rule.specs.Drawing.{Drawing, body}
 use Rattle.rule.specs.Operations.{reachOf, operationAt}
 use Rattle.rule.specs.Refusals.{toldOf}
 use Rattle.rule.specs.Stopping.{stopping}
-use Rattle.rule.specs.WellDrawn.{WellDrawn, InRange}
+use Rattle.rule.specs.WellDrawn.{WellDrawn}
 use Rattle.rule.specs.declared.Refusal.{Refusal}
 use Rattle.rule.specs.declared.Refusal.the-variants.{Room as NoRoom}
-use Rattle.rule.specs.declared.Shape.{Shape}
 use Rattle.rule.specs.declared.Told.{Told}
 use Rattle.rule.specs.declared.Verdict.the-variants.{Sound, Refused as Unsound}
-use Rattle.rule.proofs.ClassLaws.{well-drawn}
 use Rattle.rule.proofs.RefusalLaws.{sound-or}
 use Rattle.rulefile.specs.Layout.{drawingIn}
 use Rattle.rulefile.specs.Reading.{verdictOn, partsOf}
 use Rattle.rulefile.specs.declared.Contents.{Contents}
 use Rattle.rulefile.specs.declared.Written.{Written}
 use Rattle.rulefile.specs.declared.Written.the-variants.{Done, Refused}
-use Rattle.rulefile.proofs.PartsLaws.{SoundFile, sound-file, shape-drawn, pairs-drawn, SoundParts, sound-parts, parts-verdict}
+use Rattle.rulefile.proofs.WellLaws.{file-well}
+use Rattle.rulefile.proofs.PartsLaws.{SoundFile, sound-file, shape-drawn, SoundParts, sound-parts, parts-verdict}
 use Rattle.printed.specs.Placing.{Room, pasted, Put}
 use Rattle.printed.specs.Printing.{refusalLine, monitorText, textOf, PrintPromise}
 use Rattle.printed.proofs.LengthLaws.{refusal-short, monitor-short}
 
 -- ---- a sound file's drawing
 
-in-range : (f : List ℕ) → SoundFile f → InRange (drawingIn f)
-in-range f s =
-    let r = s .ranged in
-    let e = shape-drawn f s in
-    rw e
-    (record {
-      class-in = (s .classed .low, s .classed .high);
-      states-in = (r .some-states, r .states-in);
-      events-in = (r .some-events, r .events-in);
-      pairs-in = (r .some-pairs, r .pairs-in);
-      initial-in = r .initial-in;
-      one-pair = r .one-pair;
-    })
-
 well-in : (f : List ℕ) → SoundFile f → WellDrawn (drawingIn f)
-well-in f s = well-drawn (drawingIn f) (pairs-drawn f s ∙ sym (ap (λ (h : Shape). h .pairs) (shape-drawn f s))) (in-range f s) (s .sound)
+well-in f s = file-well f s
 
 -- ---- the note is no part of the monitor
 
@@ -85,7 +70,7 @@ text-short f =
     sound-or (verdictOn f)
     (λ v.
     let s = sound-file f v in
-    rw (text-sound f v) (monitor-short (drawingIn f) (well-in f s) (rw (shape-drawn f s) (s .ranged .events-in))))
+    rw (text-sound f v) (monitor-short (drawingIn f) (well-in f s) (rw (shape-drawn f s) (s .ranged .range .numbers .few-events))))
     (λ r v. rw (text-refused f v) (omega (arith, refusal-short (toldOf r))))
 
 -- ---- the text, for each way through the code

@@ -27,7 +27,6 @@ use Rattle.rulefile.proofs.ListLaws.{getD-upTo, flat-ext}
 use Rattle.rulefile.proofs.PartLaws.{drop-end, part-on, part-on-back, upTo-take, flat-take, flat-at}
 use Rattle.rulefile.proofs.LayoutLaws.{length-pairOut, length-pairsOut, length-trailerOut}
 use Rattle.rulefile.proofs.PartsLaws.{SoundFile}
-use Rattle.rulefile.proofs.WellLaws.{in-range}
 use Rattle.rulefile.proofs.DrawnLaws.{SoundDrawing}
 
 -- written, then read
@@ -68,7 +67,7 @@ module _ (d : Drawing) (s : SoundDrawing d) where
   T = trailerOut (d .shape)
 
   well : WellDrawn d
-  well = well-drawn d (s .pairs-whole) (in-range d 0 (s .class) (s .range)) (s .passes)
+  well = well-drawn d (s .pairs-whole) (record { classed = s .class; ranged = s .range }) (s .passes)
 
   -- where they are cut
   first-cut : fileOf d ≡ d .note ++ (d .table ++ (C ++ T))
@@ -101,7 +100,7 @@ module _ (d : Drawing) (s : SoundDrawing d) where
   pub trailer-in : trailerIn (fileOf d) ≡ record { shape = d .shape; spare = 0; table = tableBack (d .shape); pairs = pairsBack (d .shape) }
   trailer-in =
       let k = cells-in (s .range) in
-      let m = s .range .pairs-in in
+      let m = s .range .few-pairs in
       ap trailerOf end-read ∙ trailer-read (d .shape) (omega arith)
 
   note-read : take (length (fileOf d) - tableBack (d .shape)) (fileOf d) ≡ d .note
@@ -139,7 +138,7 @@ module _ (d : Drawing) (s : SoundDrawing d) where
       let l = length-file in
       let k = cells-in (s .range) in
       let n = s .note-in in
-      let m = s .range .pairs-in in
+      let m = s .range .few-pairs in
       let mark : (i : ℕ) → getD f (length f - 12 + i) 0 ≡ getD T i 0 = λ i. sym (getD-drop (length f - 12) f i 0) ∙ ap (λ (t : List ℕ). getD t i 0) end-read in
       let x : length f - 2 ≡ length f - 12 + 10 = omega arith in
       let y : length f - 1 ≡ length f - 12 + 11 = omega arith in
@@ -165,7 +164,7 @@ module _ (d : Drawing) (s : SoundDrawing d) where
   unfolding verdictOn firstOf
   file-sound =
       let c = classed-says (d .shape) .1 (s .class) in
-      let g = ranged-says (d .shape) 0 .1 (s .range) in
+      let g = ranged-says (d .shape) 0 .1 (record { range = s .range; spare-none = refl }) in
       rw (frame-passes, place-passes, trailer-in, c, g, drawing-read) (s .passes)
 
   -- and reads as the rule by value that the drawing is

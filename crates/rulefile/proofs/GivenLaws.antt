@@ -17,7 +17,7 @@ use Rattle.rule.specs.declared.Refusal.{Refusal}
 use Rattle.rule.specs.declared.Refusal.the-variants.{Frame, Room}
 use Rattle.rule.specs.declared.Verdict.{Verdict}
 use Rattle.rule.specs.declared.Verdict.the-variants.{Sound, Refused}
-use Rattle.rule.proofs.BoolLaws.{clash}
+use Rattle.rule.proofs.BoolLaws.{clash, fails-say, le-fails}
 use Rattle.rule.proofs.NumberLaws.{among-says, Gives}
 use Rattle.rule.proofs.RefusalLaws.{not-both}
 use Rattle.rule.proofs.TableLaws.{Within, Answers, decided, then, as-rows, sound-exactly, numbers, after-within, after}
@@ -29,7 +29,7 @@ use Rattle.rulefile.specs.Given.{writingOrder, Writing}
 use Rattle.rulefile.specs.declared.Written.{Written}
 use Rattle.rulefile.specs.declared.Written.the-variants.{Done, Refused as Unwritten}
 use Rattle.rulefile.proofs.ListLaws.{length-upTo}
-use Rattle.rulefile.proofs.FaultLaws.{fails-say, le-fails, frame-fails, distance-fails}
+use Rattle.rulefile.proofs.FaultLaws.{frame-fails, distance-fails}
 use Rattle.rulefile.proofs.RowLaws.{drawing-within, shape-rows}
 
 -- the verdict on a file, and on a rule by value

@@ -9,6 +9,7 @@ use mathlib.Core.Logic.{_↔_, Iff·trans}
 use lib.ListN.{length}
 use Rattle.rule.specs.Reach.{Closed}
 use Rattle.rule.specs.Drawing.{Drawing, states, events, count, initial, stateNo, eventNo}
+use Rattle.rule.specs.Range.{over, bad-N, bad-initial}
 use Rattle.rule.specs.Refusals.{refuseIf, firstOf, entries, members, excess, moves, stopped, empties, conditions, conditionsOrder}
 use Rattle.rule.specs.Given.{Table, FirstCell, LowestPair, BadEntry, BadMember, TooMuch, Forbidden, StopsBy, BothEmpty}
 use Rattle.rule.specs.declared.Refusal.{Refusal}
@@ -16,12 +17,13 @@ use Rattle.rule.specs.declared.Refusal.the-variants.{Class, Range, Distance, En
 use Rattle.rule.specs.declared.Verdict.{Verdict}
 use Rattle.rule.specs.declared.Verdict.the-variants.{Refused}
 use Rattle.rule.proofs.SetLaws.{below-or}
+use Rattle.rule.proofs.BoolLaws.{Fails, fails-say}
 use Rattle.rule.proofs.GivenLaws.{entries-sound, entries-refused, members-refused, excess-refused, moves-refused, stopped-refused, empties-refused}
 use Rattle.rule.proofs.TableLaws.{Within, Decides, Answers, decided, end, then}
 use Rattle.trailer.specs.Conditions.{class, range}
-use Rattle.rulefile.specs.Given.{over, BadClass, BadRange, bad-N, bad-m, bad-initial, drawingOrder, DrawingRow, at-2, at-3, at-4, at-5, at-6}
+use Rattle.rulefile.specs.Given.{BadClass, BadRange, bad-numbers, bad-m, drawingOrder, DrawingRow, at-2, at-3, at-4, at-5, at-6}
 use Rattle.rulefile.specs.Given.{at-7, at-8, at-9, at-10}
-use Rattle.rulefile.proofs.FaultLaws.{Fails, fails-say, passed, class-fails, range-fails}
+use Rattle.rulefile.proofs.FaultLaws.{passed, class-fails, shape-fails}
 
 module _ (d : Drawing) (spare : ℕ) (far : Type 0) where
   abbrev T : Table
@@ -113,11 +115,11 @@ module _ (d : Drawing) (spare : ℕ) (far : Type 0) where
   unfolding firstOf
   shape-rows {t} four whole =
       then (class (d .shape)) (row-2 (class-fails (d .shape))) (λ two.
-      let of-range = range-fails (d .shape) spare (passed Class (class-fails (d .shape)) two) in
+      let of-range = shape-fails (d .shape) spare (passed Class (class-fails (d .shape)) two) in
       then (range (d .shape) spare) (row-3 of-range) (λ three.
       let in-range = passed Range of-range three in
       then (refuseIf (not t) Distance) (row-4 four) (λ _.
       drawing-rows
       (whole (below-or 8 (count d) (λ h. absurd (in-range (bad-m (over h)))) (λ h. h)))
-      (below-or 64 (states d) (λ h. absurd (in-range (bad-N (over h)))) (λ h. h))
-      (below-or (initial d) (states d) (λ h. h) (λ h. absurd (in-range (bad-initial h)))))))
+      (below-or 64 (states d) (λ h. absurd (in-range (bad-numbers (bad-N (over h))))) (λ h. h))
+      (below-or (initial d) (states d) (λ h. h) (λ h. absurd (in-range (bad-numbers (bad-initial h))))))))

@@ -1,11 +1,12 @@
 -- The paper's table "Refusal numbers", for a call on a rule file or a rule: the rows 1 to 4 in plain words, and then the tables.
 -- Assumes nothing.
-use Prim.Native.Nat.{ℕ, _-_, _≤_, _<_}
+use Prim.Native.Nat.{ℕ, _-_, _<_}
 use mathlib.Core.Path.{_≡_}
 use mathlib.Core.List.{List, [], _∷_, _++_}
 use mathlib.Core.Logic.{_⊎_}
 use lib.ListN.{length, getD, drop}
 use Rattle.rule.specs.Drawing.{Drawing, initial, drawn}
+use Rattle.rule.specs.Range.{ruleLimits, mostPairs, Outside, OutOfRange}
 use Rattle.rule.specs.Refusals.{conditionsOrder}
 use Rattle.rule.specs.Given.{Table, After, FirstCell, LowestPair, BadEntry, BadMember, TooMuch, Forbidden, StopsBy, BothEmpty}
 use Rattle.rule.specs.declared.Rule.{Rule}
@@ -17,11 +18,6 @@ use Rattle.rule.specs.declared.Refusal.the-variants.{Frame, Class, Range, Dista
 use Rattle.trailer.specs.Conditions.{tableBack, pairsBack, headOrder}
 use Rattle.trailer.specs.declared.Trailer.{Trailer}
 use Rattle.rulefile.specs.Layout.{trailerIn, drawingIn, fileOf}
-
--- x is not one of lo to hi
-pub data Outside (lo hi x : ℕ) : Type 0 where
-  under : x < lo → Outside lo hi x
-  over : hi < x → Outside lo hi x
 
 -- byte i of a file's trailer
 abbrev pub trailerByte : List ℕ → ℕ → ℕ
@@ -39,10 +35,8 @@ BadClass s = Outside 1 4 (s .class)
 
 -- 3: N, K, m out of range, initial state >= N, byte 5 not 0, or m not 1 in class 1, 2, 4
 pub data BadRange (s : Shape) (spare : ℕ) : Type 0 where
-  bad-N : Outside 1 64 (s .states) → BadRange s spare
-  bad-K : Outside 1 32 (s .events) → BadRange s spare
-  bad-m : Outside 1 8 (s .pairs) → BadRange s spare
-  bad-initial : s .states ≤ s .initial .0 → BadRange s spare
+  bad-numbers : OutOfRange ruleLimits (s .states) (s .events) (s .initial .0) → BadRange s spare
+  bad-m : Outside 1 mostPairs (s .pairs) → BadRange s spare
   byte-5 : (spare ≡ 0 → ⊥) → BadRange s spare
   not-one : (s .class ≡ 1) ⊎ (s .class ≡ 2) ⊎ (s .class ≡ 4) → (s .pairs ≡ 1 → ⊥) → BadRange s spare
 

@@ -2,10 +2,11 @@
 -- Assumes nothing.
 use mathlib.Core.Path.{_≡_, sym, _∙_}
 use mathlib.Core.List.{[], _∷_}
-use mathlib.Core.Bool.{Bool, true, false, not, _&&_}
+use mathlib.Core.Bool.{Bool, true, false, not, _&&_, _||_}
 use Prim.Native.Nat.{ℕ}
 use borrow.Author.Tests.{le-leb, lt-leb, le-ltb, lt-ltb, eq-eqb, ne-eqb, not-true, not-false}
-use lib.Dec.{leb}
+use lib.Dec.{leb, eqb}
+use Rattle.rule.specs.Range.{ruleLimits, mostPairs, between, inRange}
 use Rattle.rule.specs.Refusals.{refuseIf, firstOf}
 use Rattle.rule.proofs.RefusalLaws.{append-hit, append-more, first-one}
 use Rattle.rule.specs.declared.Shape.{Shape}
@@ -17,6 +18,12 @@ use Rattle.trailer.specs.Conditions.{classed, ranged, shapeConditions}
 
 -- a comparison's answer from what it compares
 pub ruleset tests = (le-leb, lt-leb, le-ltb, lt-ltb, eq-eqb, ne-eqb)
+
+-- check 3, with the numbers tested apart
+pub range-tested : (s : Shape) (spare : ℕ) {ok : Bool} → ok ≡ inRange ruleLimits (s .states) (s .events) (s .initial .0)
+    → ok && (between 1 mostPairs (s .pairs) && (eqb spare 0 && (eqb (s .class) 3 || eqb (s .pairs) 1))) ≡ ranged s spare
+unfolding ranged
+range-tested s spare is = rw is
 
 -- the refusals 2 and 3
 

@@ -2,6 +2,7 @@
 ghost use mathlib.Core.Path.{_≡_};
 ghost use Rattle.rule.specs.Refusals.{firstOf};
 ghost use Rattle.trailer.specs.Conditions.{shapeConditions, headConditions};
+use rule::Limits;
 use rule::Refusal;
 use rule::Rule;
 use rule::Shape;
@@ -32,17 +33,18 @@ pub fn framed(file: &[u8]) -> bool
     file[len - 1] == 82
 }
 
-// Whether N, K, m, the initial state and the spare byte are in range, and m is 1 where the class has one pair. The tests are joined by
-// `&`, as in the definition: none of them can fail, and there is no branch for each.
+// Whether N, K, m, the initial state and the spare byte are in range, and m is 1 where the class has one pair.
 fn ranged(shape: Shape, spare: u8) -> bool
     ensures { λ r. ⌜ r ≡ Rattle.trailer.specs.Conditions.ranged shape spare ⌝ }
 {
-    let states = (1 <= shape.states) & (shape.states <= Rule::STATES);
-    let events = (1 <= shape.events) & (shape.events <= Rule::EVENTS);
+    let limits = Limits {
+        states: Rule::STATES,
+        events: Rule::EVENTS,
+    };
+    let numbers = limits.hold(shape.states, shape.events, shape.initial);
     let pairs = (1 <= shape.pairs) & (shape.pairs <= Rule::PAIRS);
-    let initial = shape.initial;
-    let start = (initial.0 < shape.states) & (spare == 0);
-    states & (events & (pairs & (start & ((shape.class == 3) | (shape.pairs == 1)))))
+    let one = (shape.class == 3) | (shape.pairs == 1);
+    numbers & (pairs & ((spare == 0) & one))
 }
 
 // The refusals 2 and 3.
