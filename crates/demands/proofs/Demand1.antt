@@ -51,7 +51,7 @@ use Rattle.pachallu.proofs.RefusedLaws.{make-kept, event-kept}
 pub record Demand1 : Type 0 where
   -- looking at a rule file: 1 to 10, and 0 in every place; its checks alone: 2 and 3 of a shape, 2 to 4 of a trailer, 3 to 10 of a table and pairs
   pub look : (f : List ℕ) (x : Refusal) → partsOf f .verdict ≡ Unsound x → Numbered readingOrder x × (partsOf f ≡ partsBy (Unsound x) [])
-  pub shape : (s : Shape) (spare : ℕ) (x : Refusal) → firstOf (shapeConditions s spare) ≡ Unsound x → Numbered shapeOrder x
+  pub shape : (s : Shape) (x : Refusal) → firstOf (shapeConditions s) ≡ Unsound x → Numbered shapeOrder x
   pub head : (t : Trailer) (size : ℕ) (x : Refusal)
       → firstOf (headConditions t size) ≡ Unsound x → Numbered headOrder x
   pub check : (s : Shape) (table : List ℕ) (pairs : List Pair) (x : Refusal) → checkedOf s table pairs ≡ Unsound x → Numbered checkedOrder x

@@ -28,7 +28,7 @@ unfolding drawingIn
 sound-formed f e =
     let s = sound-file f e in
     record {
-      in-range = s .ranged .range .numbers;
+      in-range = s .ranged .numbers;
       cells = table-drawn f s;
       entries-in = entries-sound (drawingIn f) .0 (first-sound _ _ .0 (s .sound) .0);
     }

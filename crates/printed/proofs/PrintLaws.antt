@@ -70,7 +70,7 @@ text-short f =
     sound-or (verdictOn f)
     (λ v.
     let s = sound-file f v in
-    rw (text-sound f v) (monitor-short (drawingIn f) (well-in f s) (rw (shape-drawn f s) (s .ranged .range .numbers .few-events))))
+    rw (text-sound f v) (monitor-short (drawingIn f) (well-in f s) (rw (shape-drawn f s) (s .ranged .numbers .few-events))))
     (λ r v. rw (text-refused f v) (omega (arith, refusal-short (toldOf r))))
 
 -- ---- the text, for each way through the code

@@ -24,13 +24,14 @@ pub struct Pair {
     pub p: u64,
 }
 
-// The class, N, K, m and the initial state.
+// The class, N, K, m, the initial state and the mode, which is 0.
 pub struct Shape {
     pub class: u8,
     pub states: u8,
     pub events: u8,
     pub pairs: u8,
     pub initial: StateNo,
+    pub mode: u8,
 }
 
 // A rule by value: of the note the first `length` bytes are used, of the table the first N*K, of the pairs the first m.

@@ -40,7 +40,7 @@ pub file-drawing : (f : List ℕ) → SoundFile f → SoundDrawing (drawingIn f)
 file-drawing f s =
     record {
       class = rw (shape-drawn f s) (s .classed);
-      range = rw (shape-drawn f s) (s .ranged .range);
+      range = rw (shape-drawn f s) (s .ranged);
       note-in = rw (note-drawn f s) (s .placed .note-in);
       table-whole = file-table f s;
       pairs-whole = file-pairs f s;
@@ -84,5 +84,4 @@ module _ (d : Drawing) (s : SoundDrawing d) where
   pub rule-sound : verdictOf (ruleOf d) ≡ Sound
   unfolding verdictOf firstOf ruleOf
   rule-sound =
-      let r = ranged-says (d .shape) 0 .1 (record { range = s .range; spare-none = refl }) in
-      rw (drawn-rule, classed-says (d .shape) .1 (s .class), r, le-leb (length (d .note)) 1024 (s .note-in)) (s .passes)
+      rw (drawn-rule, classed-says (d .shape) .1 (s .class), ranged-says (d .shape) .1 (s .range), le-leb (length (d .note)) 1024 (s .note-in)) (s .passes)

@@ -32,7 +32,7 @@ use Rattle.rulefile.proofs.GivenLaws.{file-within, read-gives, read-sou
 unfoldable pub sample : ℕ → ℕ → List ℕ
 sample n k =
     fileOf (record {
-      shape = record { class = 1; states = n; events = 1; pairs = 1; initial = stateNo 0 };
+      shape = record { class = 1; states = n; events = 1; pairs = 1; initial = stateNo 0; mode = 0 };
       note = replicate k 0;
       table = upTo (λ s. s) n;
       pairs = record { r = 0; p = 1 } ∷ [];
@@ -54,18 +54,18 @@ samples = record { states-64 = refl; states-65 = refl; note-1024 = refl; note-10
 
 -- a shape with another N
 abbrev withStates : ℕ → Shape → Shape
-withStates n s = record { class = s .class; states = n; events = s .events; pairs = s .pairs; initial = s .initial }
+withStates n s = record { class = s .class; states = n; events = s .events; pairs = s .pairs; initial = s .initial; mode = s .mode }
 
 -- a shape that is in range still is with N 64
-pub in-range-64 : (s : Shape) (spare : ℕ) → (BadRange s spare → ⊥) → BadRange (withStates 64 s) spare → ⊥
-in-range-64 s spare o (bad-numbers (bad-N (under h))) = omega arith
-in-range-64 s spare o (bad-numbers (bad-N (over h))) = omega arith
-in-range-64 s spare o (bad-numbers (bad-K h)) = o (bad-numbers (bad-K h))
-in-range-64 s spare o (bad-m h) = o (bad-m h)
-in-range-64 s spare o (bad-numbers (bad-initial h)) =
+pub in-range-64 : (s : Shape) → (BadRange s → ⊥) → BadRange (withStates 64 s) → ⊥
+in-range-64 s o (bad-numbers (bad-N (under h))) = omega arith
+in-range-64 s o (bad-numbers (bad-N (over h))) = omega arith
+in-range-64 s o (bad-numbers (bad-K h)) = o (bad-numbers (bad-K h))
+in-range-64 s o (bad-m h) = o (bad-m h)
+in-range-64 s o (bad-numbers (bad-initial h)) =
     below-or 64 (s .states) (λ k. o (bad-numbers (bad-N (over k)))) (λ k. o (bad-numbers (bad-initial (omega arith))))
-in-range-64 s spare o (byte-5 h) = o (byte-5 h)
-in-range-64 s spare o (not-one c h) = o (not-one c h)
+in-range-64 s o (byte-5 h) = o (byte-5 h)
+in-range-64 s o (not-one c h) = o (not-one c h)
 
 module _ (f : List ℕ) where
   abbrev shape : Shape

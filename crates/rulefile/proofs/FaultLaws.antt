@@ -72,12 +72,12 @@ module _ (s : Shape) where
   unfolding classed
   class-fails = outside-fails 1 4 (s .class)
 
-  pub shape-fails : (spare : ℕ) → (BadClass s → ⊥) → Fails (ranged s spare) (BadRange s spare)
+  pub shape-fails : (BadClass s → ⊥) → Fails (ranged s) (BadRange s)
   unfolding ranged
-  shape-fails spare o =
+  shape-fails o =
       Iff·trans
       (and-fails (range-fails ruleLimits (s .states) (s .events) (s .initial .0)) (and-fails (outside-fails 1 mostPairs (s .pairs))
-      (and-fails (eq-fails spare 0) (or-fails (eq-fails (s .class) 3) (eq-fails (s .pairs) 1))))) (
+      (and-fails (eq-fails (s .mode) 0) (or-fails (eq-fails (s .class) 3) (eq-fails (s .pairs) 1))))) (
         ⊎-elim bad-numbers (⊎-elim bad-m (⊎-elim byte-5 (λ p. not-one (other-class (s .class) o (p .0)) (p .1)))),
         λ b. elim b [
           | bad-numbers h ↦ inl h

@@ -14,7 +14,7 @@ use Rattle.rule.specs.declared.Refusal.the-variants.{Frame, Class, Range, Dista
 use Rattle.rule.specs.declared.Verdict.{Verdict}
 use Rattle.rule.specs.declared.Verdict.the-variants.{Sound, Refused}
 use Rattle.trailer.specs.Conditions.{tableBack, pairsBack}
-use Rattle.trailer.proofs.SoundLaws.{Framed, framed-says, classed-says, Spared, ranged-says, Placed, placed-says, passed}
+use Rattle.trailer.proofs.SoundLaws.{Framed, framed-says, classed-says, ranged-says, Placed, placed-says, passed}
 use Rattle.rulefile.specs.Layout.{trailerIn, drawingIn}
 use Rattle.rulefile.specs.Reading.{verdictOn, partsBy, partsOf}
 use Rattle.rulefile.specs.declared.Contents.{Contents}
@@ -24,7 +24,7 @@ use Rattle.rulefile.proofs.ListLaws.{length-upTo, take-padded}
 pub record SoundFile (f : List ℕ) : Type 0 where
   pub framed : Framed f
   pub classed : Classed (trailerIn f .shape)
-  pub ranged : Spared (trailerIn f .shape) (trailerIn f .spare)
+  pub ranged : Ranged (trailerIn f .shape)
   pub placed : Placed (trailerIn f) (length f)
   pub sound : firstOf (conditions (drawingIn f)) ≡ Sound
 
@@ -38,7 +38,7 @@ sound-file f e =
     record {
       framed = passed Frame (framed-says f) .0 (a .0);
       classed = passed Class (classed-says (trailerIn f .shape)) .0 (b .0);
-      ranged = passed Range (ranged-says (trailerIn f .shape) (trailerIn f .spare)) .0 (c .0);
+      ranged = passed Range (ranged-says (trailerIn f .shape)) .0 (c .0);
       placed = passed Distance (placed-says (trailerIn f) (length f)) .0 (d .0);
       sound = d .1;
     }
@@ -107,7 +107,7 @@ parts-all f s =
     record {
       drawn = refl;
       classed = s .classed;
-      ranged = s .ranged .range;
+      ranged = s .ranged;
       note-in = s .placed .note-in;
       table-ends = omega arith;
       pairs-end = omega arith;

@@ -141,7 +141,7 @@ module _ (f : List ℕ) {ok : Bool} (is : ok ≡ framed f) (right : not ok ≡ f
     pairs-before-trailer = omega (arith, distances .trailer-in)
 
     pub pairs-few : t .shape .pairs ≤ 8
-    pairs-few = headed .ranged .range .few-pairs
+    pairs-few = headed .ranged .few-pairs
 
     pub pairs-whole : length (take (length f - 12 - (length f - t .pairs)) (drop (length f - t .pairs) f)) ≡ 16 * t .shape .pairs
     pairs-whole = pairs-long f t (headed .placed)
@@ -159,7 +159,7 @@ module _ (f : List ℕ) {ok : Bool} (is : ok ≡ framed f) (right : not ok ≡ f
     module _ {ps : List Pair} (cut-off : ps ≡ pairsBy f t) {w : Verdict} (checked : w ≡ checkedOf (t .shape) (tableBy f t) ps) where
       pub body-told : w ≡ verdictOn f
       body-told =
-          let g = headed .ranged .range in
+          let g = headed .ranged in
           checked
           ∙ in-range (t .shape) (tableBy f t) ps (g .numbers .few-states) (g .some-pairs) (g .few-pairs)
           ∙ rw cut-off (ap firstOf body-conditions)

@@ -25,9 +25,9 @@ use Rattle.rulefile.specs.Given.{BadClass, BadRange, bad-numbers, bad-m,
 use Rattle.rulefile.specs.Given.{at-7, at-8, at-9, at-10}
 use Rattle.rulefile.proofs.FaultLaws.{passed, class-fails, shape-fails}
 
-module _ (d : Drawing) (spare : ℕ) (far : Type 0) where
+module _ (d : Drawing) (far : Type 0) where
   abbrev T : Table
-  T = DrawingRow d spare far
+  T = DrawingRow d far
 
   pub drawing-within : Within drawingOrder T
   drawing-within n x (at-2 a) = record { number = refl; listed = refl }
@@ -50,10 +50,10 @@ module _ (d : Drawing) (spare : ℕ) (far : Type 0) where
       says : (y : Refusal) → T 2 y → (Class ≡ y) × (BadClass (d .shape))
       says y (at-2 a) = (refl, a)
 
-  row-3 : {t : Bool} → Fails t (BadRange (d .shape) spare) → Decides T 3 (refuseIf (not t) Range)
+  row-3 : {t : Bool} → Fails t (BadRange (d .shape)) → Decides T 3 (refuseIf (not t) Range)
   row-3 f = decided T 3 (fails-say f) at-3 says
     where
-      says : (y : Refusal) → T 3 y → (Range ≡ y) × (BadRange (d .shape) spare)
+      says : (y : Refusal) → T 3 y → (Range ≡ y) × (BadRange (d .shape))
       says y (at-3 a) = (refl, a)
 
   row-4 : {t : Bool} → Fails t far → Decides T 4 (refuseIf (not t) Distance)
@@ -111,12 +111,12 @@ module _ (d : Drawing) (spare : ℕ) (far : Type 0) where
 
   -- 2 to 10
   pub shape-rows : {t : Bool} → Fails t far → (count d ≤ 8 → length (d .pairs) ≡ count d)
-      → Answers T drawingOrder (firstOf (class (d .shape) ∷ range (d .shape) spare ∷ refuseIf (not t) Distance ∷ conditions d))
+      → Answers T drawingOrder (firstOf (class (d .shape) ∷ range (d .shape) ∷ refuseIf (not t) Distance ∷ conditions d))
   unfolding firstOf
   shape-rows {t} four whole =
       then (class (d .shape)) (row-2 (class-fails (d .shape))) (λ two.
-      let of-range = shape-fails (d .shape) spare (passed Class (class-fails (d .shape)) two) in
-      then (range (d .shape) spare) (row-3 of-range) (λ three.
+      let of-range = shape-fails (d .shape) (passed Class (class-fails (d .shape)) two) in
+      then (range (d .shape)) (row-3 of-range) (λ three.
       let in-range = passed Range of-range three in
       then (refuseIf (not t) Distance) (row-4 four) (λ _.
       drawing-rows

@@ -15,7 +15,7 @@ module _ (f : List ℕ) (s : SoundFile f) where
   -- its shape passes the checks 2 and 3
   pub file-shaped : Shaped (drawingIn f .shape)
   unfolding drawingIn
-  file-shaped = record { classed = s .classed; ranged = s .ranged .range }
+  file-shaped = record { classed = s .classed; ranged = s .ranged }
 
   -- its table has N*K entries, and there are m pairs
   pub file-table : length (drawingIn f .table) ≡ states (drawingIn f) * events (drawingIn f)

@@ -73,7 +73,7 @@ measured-sound s length e =
     let c = first-sound _ _ .0 (b .1) in
     record {
       classed = passed Class (classed-says s) .0 (a .0);
-      ranged = passed Range (ranged-says s 0) .0 (b .0) .range;
+      ranged = passed Range (ranged-says s) .0 (b .0);
       note-in = passed Distance (le-says length 1024) .0 (c .0);
     }
 

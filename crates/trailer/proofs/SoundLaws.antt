@@ -47,23 +47,15 @@ unfolding classed
 classed-says s =
     in-words (and-says (le-says _ _) (le-says _ _)) (λ p. record { low = p .0; high = p .1 }) (λ p. (p .low, p .high))
 
--- 3: N, K and m in range, the initial state below N, m 1 but in class 3, and byte 5 zero
-pub record Spared (s : Shape) (spare : ℕ) : Type 0 where
-  pub range : Ranged s
-  pub spare-none : spare ≡ 0
-
-pub ranged-says : (s : Shape) (spare : ℕ) → Says (ranged s spare) (Spared s spare)
+-- 3: N, K and m in range, the initial state below N, byte 5 zero, and m 1 but in class 3
+pub ranged-says : (s : Shape) → Says (ranged s) (Ranged s)
 unfolding ranged
-ranged-says s spare =
+ranged-says s =
     in-words
     (and-says (range-says ruleLimits (s .states) (s .events) (s .initial .0))
     (and-says (and-says (le-says _ _) (le-says _ _)) (and-says (eq-says _ _) (or-says (eq-says _ _) (eq-says _ _)))))
-    (λ p.
-    record {
-      range = record { numbers = p .0; some-pairs = p .1 .0 .0; few-pairs = p .1 .0 .1; one-pair = p .1 .1 .1 };
-      spare-none = p .1 .1 .0;
-    })
-    (λ p. let r = p .range in (r .numbers, ((r .some-pairs, r .few-pairs), (p .spare-none, r .one-pair))))
+    (λ p. record { numbers = p .0; some-pairs = p .1 .0 .0; few-pairs = p .1 .0 .1; no-mode = p .1 .1 .0; one-pair = p .1 .1 .1 })
+    (λ r. (r .numbers, ((r .some-pairs, r .few-pairs), (r .no-mode, r .one-pair))))
 
 -- 4: the distances are right, the file is as long as they say, and the note is not over 1,024
 pub record Placed (t : Trailer) (size : ℕ) : Type 0 where
@@ -82,7 +74,7 @@ placed-says t size =
 -- 2 to 4 of a file
 pub record Headed (t : Trailer) (size : ℕ) : Type 0 where
   pub classed : Classed (t .shape)
-  pub ranged : Spared (t .shape) (t .spare)
+  pub ranged : Ranged (t .shape)
   pub placed : Placed t size
 
 pub headed-sound : (t : Trailer) (size : ℕ) → firstOf (headConditions t size) ≡ Sound → Headed t size
@@ -92,7 +84,7 @@ headed-sound t size e =
     let c = first-sound _ _ .0 (b .1) in
     record {
       classed = passed Class (classed-says (t .shape)) .0 (a .0);
-      ranged = passed Range (ranged-says (t .shape) (t .spare)) .0 (b .0);
+      ranged = passed Range (ranged-says (t .shape)) .0 (b .0);
       placed = passed Distance (placed-says t size) .0 (c .0);
     }
 

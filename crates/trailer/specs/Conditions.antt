@@ -28,13 +28,13 @@ abbrev pub class : Shape → Verdict
 class s = refuseIf (not (classed s)) Class
 
 -- 3: N, K, m out of range, initial state >= N, byte 5 not 0, or m not 1 in class 1, 2, 4
-unfoldable pub ranged : Shape → ℕ → Bool
-ranged s spare =
+unfoldable pub ranged : Shape → Bool
+ranged s =
     inRange ruleLimits (s .states) (s .events) (s .initial .0)
-    && (between 1 mostPairs (s .pairs) && (eqb spare 0 && (eqb (s .class) 3 || eqb (s .pairs) 1)))
+    && (between 1 mostPairs (s .pairs) && (eqb (s .mode) 0 && (eqb (s .class) 3 || eqb (s .pairs) 1)))
 
-abbrev pub range : Shape → ℕ → Verdict
-range s spare = refuseIf (not (ranged s spare)) Range
+abbrev pub range : Shape → Verdict
+range s = refuseIf (not (ranged s)) Range
 
 -- the distances from the file's end back to the pairs and back to the table
 abbrev pub pairsBack : Shape → ℕ
@@ -53,14 +53,14 @@ abbrev pub distance : Trailer → ℕ → Verdict
 distance t size = refuseIf (not (placed t size)) Distance
 
 -- the conditions of a shape, and of a trailer in a file of so many bytes, with their numbers
-abbrev pub shapeConditions : Shape → ℕ → List Verdict
-shapeConditions s spare = class s ∷ range s spare ∷ []
+abbrev pub shapeConditions : Shape → List Verdict
+shapeConditions s = class s ∷ range s ∷ []
 
 abbrev pub shapeOrder : List ℕ
 shapeOrder = 2 ∷ 3 ∷ []
 
 abbrev pub headConditions : Trailer → ℕ → List Verdict
-headConditions t size = class (t .shape) ∷ range (t .shape) (t .spare) ∷ distance t size ∷ []
+headConditions t size = class (t .shape) ∷ range (t .shape) ∷ distance t size ∷ []
 
 abbrev pub headOrder : List ℕ
 headOrder = 2 ∷ 3 ∷ 4 ∷ []
