@@ -9,6 +9,7 @@ use Rattle.contracts.specs.Contract.{Keeps}
 use Rattle.octets.specs.Copies.{copied}
 use Rattle.octets.specs.Numbers as numbers
 use Rattle.octets.specs.Numbers.{digits}
+use Rattle.rule.specs.Range.{inRange}
 use Rattle.rule.specs.Sets.{has, including, Members}
 use Rattle.rule.specs.Reach.{placeOf, target, reachedWithin, reachedSets}
 use Rattle.rule.specs.Drawing.{body}
@@ -104,7 +105,7 @@ pachallu-event-keeps κs a x = x .told
 pub framed-keeps : Keeps trailer.framed.ended trailer.framed.Reads.Learnt λ κs a r l. r ≡ framed (now (a .0))
 framed-keeps κs a x = x .told
 
-pub shaped-keeps : Keeps trailer.shaped.ended trailer.shaped.Reads.Learnt λ κs a r l. r ≡ firstOf (shapeConditions (a .0) (a .1 .0))
+pub shaped-keeps : Keeps trailer.shaped.ended trailer.shaped.Reads.Learnt λ κs a r l. r ≡ firstOf (shapeConditions (a .0))
 shaped-keeps κs a x = x .told
 
 pub headed-keeps : Keeps trailer.headed.ended trailer.headed.Reads.Learnt λ κs a r l. r ≡ firstOf (headConditions (a .0) (a .1 .0))
@@ -152,6 +153,9 @@ reached-sets-keeps κs a x = x .told
 
 pub place-keeps : Keeps rule.place.ended rule.place.Reads.Learnt λ κs a r l. r ≡ placeOf (a .0) (a .1 .0 .0) (a .1 .1 .0 .0)
 place-keeps κs a x = x .told
+
+pub Limits-hold-keeps : Keeps rule.Limits.hold.ended rule.Limits.hold.Reads.Learnt λ κs a r l. r ≡ inRange (a .0) (a .1 .0) (a .1 .1 .0) (a .1 .1 .1 .0 .0)
+Limits-hold-keeps κs a x = x .told
 
 pub Operation-mark-keeps : Keeps rule.Operation.mark.ended rule.Operation.mark.Reads.Learnt λ κs a r l. r ≡ markOf (a .0)
 Operation-mark-keeps κs a x = x .told

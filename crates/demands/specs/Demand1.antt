@@ -81,6 +81,6 @@ pub record Demand1 : Type 0 where
       → Ends (EventRow sheet (runOf state held) (eventNo event) (length memory) (length output)) eventOrder (answeredTold r)
       (EventKept state held memory output r memory′ output′)
   -- the checks alone, of a shape, a trailer, and a table with its pairs, give no other number than these
-  pub shape : (s : Shape) (spare : ℕ) (x : Refusal) → firstOf (shapeConditions s spare) ≡ Unsound x → Numbered shapeOrder x
+  pub shape : (s : Shape) (x : Refusal) → firstOf (shapeConditions s) ≡ Unsound x → Numbered shapeOrder x
   pub head : (t : Trailer) (size : ℕ) (x : Refusal) → firstOf (headConditions t size) ≡ Unsound x → Numbered headOrder x
   pub check : (s : Shape) (table : List ℕ) (pairs : List Pair) (x : Refusal) → checkedOf s table pairs ≡ Unsound x → Numbered checkedOrder x

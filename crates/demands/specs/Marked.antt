@@ -19,7 +19,7 @@ use Rattle.history.specs.History.{logAfter, runAfter, releasedAfter}
 abbrev pub rule : (class states events : ℕ) → (table : List ℕ) → (pairs : List Pair) → Drawing
 rule class states events table pairs =
     record {
-      shape = record { class = class; states = states; events = events; pairs = length pairs; initial = stateNo 0 };
+      shape = record { class = class; states = states; events = events; pairs = length pairs; initial = stateNo 0; mode = 0 };
       note = [];
       table = table;
       pairs = pairs;

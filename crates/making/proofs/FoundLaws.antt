@@ -27,13 +27,8 @@ pub sound-formed : (f : List ℕ) → verdictOn f ≡ Sound → Formed (drawingI
 unfolding drawingIn
 sound-formed f e =
     let s = sound-file f e in
-    let r = s .ranged in
     record {
-      some-states = r .some-states;
-      few-states = r .states-in;
-      some-events = r .some-events;
-      few-events = r .events-in;
-      initial-in = r .initial-in;
+      in-range = s .ranged .numbers;
       cells = table-drawn f s;
       entries-in = entries-sound (drawingIn f) .0 (first-sound _ _ .0 (s .sound) .0);
     }
@@ -48,7 +43,7 @@ module _ (f : List ℕ) (p : Contents) (is : p ≡ partsOf f) where
 
     -- what the sheet's writer asks
     pub found-few : p .shape .states ≤ 64
-    found-few = parts .ranged .states-in
+    found-few = parts .ranged .numbers .few-states
 
     pub found-low : (i : ℕ) → getD (take (p .end - p .start) (drop (p .start) f)) i 0 < p .shape .states
     found-low i = rw (parts .table-is, parts .drawn) (low (sound-formed f sound-is) i)

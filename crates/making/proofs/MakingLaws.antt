@@ -12,6 +12,7 @@ use lib.Seq.{getD-append-add}
 use Rattle.octets.specs.Numbers.{digits}
 use Rattle.rule.specs.Drawing.{Drawing, states, events, initial, next}
 use Rattle.rule.specs.Operations.{markOf, operation}
+use Rattle.rule.specs.Range.{ruleLimits, InRange}
 use Rattle.rule.specs.Reach.{target, Closed}
 use Rattle.rule.specs.declared.Shape.{Shape}
 use Rattle.sheet.specs.Opening.{back, openedOf}
@@ -50,11 +51,7 @@ module _ (d : Drawing) where
 
 -- a drawing of which a sheet can be made
 pub record Formed (d : Drawing) : Type 0 where
-  pub some-states : 1 ≤ states d
-  pub few-states : states d ≤ 64
-  pub some-events : 1 ≤ events d
-  pub few-events : events d ≤ 32
-  pub initial-in : initial d < states d
+  pub in-range : InRange ruleLimits (states d) (events d) (initial d)
   pub cells : length (d .table) ≡ states d * events d
   pub entries-in : Closed (d .table) (states d) (events d)
 
@@ -65,10 +62,10 @@ module _ {d : Drawing} (f : Formed d) where
   low i =
       elim (decLt i (length (d .table))) [
         | yes h ↦
-            let k : 1 ≤ events d = f .some-events in
+            let k : 1 ≤ events d = f .in-range .some-events in
             let s : i / events d < states d = div-lt-iff-lt-mul k .1 (rw (f .cells) at h) in
             rw (div-add-mod' i (events d)) at (f .entries-in (i / events d) (i % events d) s (mod-lt i k))
-        | no h ↦ rw (List·getD-eq-default (d .table) 0 {n = i} (omega arith)) (f .some-states)
+        | no h ↦ rw (List·getD-eq-default (d .table) 0 {n = i} (omega arith)) (f .in-range .some-states)
       ]
 
   pub sheet-length : length (sheetOf d) ≡ states d * events d + 6
@@ -87,13 +84,13 @@ module _ {d : Drawing} (f : Formed d) where
     pub cell-next : getD (sheetOf d) (s * events d + e) 0 % 64 ≡ next d s e
     cell-next =
         let h = f .entries-in s e hs he in
-        let k = f .few-states in
+        let k = f .in-range .few-states in
         rw sheet-cell (omega arith)
 
     pub cell-operation : getD (sheetOf d) (s * events d + e) 0 / 64 ≡ markOf (operation d s e)
     cell-operation =
         let h = f .entries-in s e hs he in
-        let k = f .few-states in
+        let k = f .in-range .few-states in
         rw sheet-cell (omega arith)
 
   -- it opens, with the N, K and initial state of the drawing
@@ -102,16 +99,12 @@ module _ {d : Drawing} (f : Formed d) where
       let n : back (sheetOf d) 6 ≡ states d = at-end d 6 (omega arith) in
       let k : back (sheetOf d) 5 ≡ events d = at-end d 5 (omega arith) in
       let i : back (sheetOf d) 4 ≡ initial d = at-end d 4 (omega arith) in
-      let m = mul-le-mul (f .few-states) (f .few-events) in
+      let m = mul-le-mul (f .in-range .few-states) (f .in-range .few-events) in
       opened-when (sheetOf d) _ .1 (
         record {
           long = rw sheet-length (omega arith);
           marked = at-end d 3 (omega arith);
-          some-states = rw n (f .some-states);
-          few-states = rw n (f .few-states);
-          some-events = rw k (f .some-events);
-          few-events = rw k (f .few-events);
-          initial-in = rw (n, i) (f .initial-in);
+          in-range = rw (n, k, i) (f .in-range);
           distance = rw (n, k, low-byte d, high-byte d) (omega arith);
           size = rw (n, k) sheet-length;
         },

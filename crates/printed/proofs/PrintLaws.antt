@@ -23,7 +23,7 @@ use Rattle.rulefile.specs.declared.Contents.{Contents}
 use Rattle.rulefile.specs.declared.Written.the-variants.{Done, Refused}
 use Rattle.rulefile.proofs.PartsLaws.{sound-file, sound-parts, parts-verdict, table-order, table-inside}
 use Rattle.rulefile.proofs.WritingLaws.{put-no-room, put-done}
-use Rattle.rulefile.proofs.WellLaws.{file-well, file-range}
+use Rattle.rulefile.proofs.WellLaws.{file-well, file-shaped}
 use Rattle.printed.specs.Placing.{Put}
 use Rattle.printed.specs.Printing.{header, cellLines, stopLine, refusalLine, monitorText, textMax, textOf, PrintPromise}
 use Rattle.printed.specs.Writers.{into, haltsInto, textFrom}
@@ -46,7 +46,7 @@ module _ (f : List ℕ) where
   pub text-short : length (textOf f) ≤ textMax
   text-short =
       sound-or (verdictOn f)
-      (λ v. let s = sound-file f v in rw (text-sound v) (monitor-short (drawingIn f) (file-well f s) (file-range f s .events-in .1)))
+      (λ v. let s = sound-file f v in rw (text-sound v) (monitor-short (drawingIn f) (file-well f s) (file-shaped f s .ranged .numbers .few-events)))
       (λ r v. rw (text-refused v) (omega (arith, refusal-short (toldOf r))))
 
   -- it is the text of what was found of the file, and of the operations

@@ -10,6 +10,7 @@ pub mod WayLaws
 pub mod ReachLaws
 -- refusals: which is first, when each is given, and their numbers
 pub mod BoolLaws
+pub mod RangeLaws
 pub mod RefusalLaws
 pub mod GivenLaws
 pub mod NumberLaws

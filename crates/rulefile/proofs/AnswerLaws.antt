@@ -30,7 +30,7 @@ unfolding verdictOf
 rule-gives r =
     first-gives
     (and (test-gives (not (classed (r .shape))) Class refl)
-    (and (test-gives (not (ranged (r .shape) 0)) Range refl)
+    (and (test-gives (not (ranged (r .shape))) Range refl)
     (and (test-gives (not (leb (r .length) 1024)) Distance refl) (conditions-give (drawn r)))))
 
 -- looking at a file that is refused, and reading it

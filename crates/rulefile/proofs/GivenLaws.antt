@@ -17,7 +17,7 @@ use Rattle.rule.specs.declared.Refusal.{Refusal}
 use Rattle.rule.specs.declared.Refusal.the-variants.{Frame, Room}
 use Rattle.rule.specs.declared.Verdict.{Verdict}
 use Rattle.rule.specs.declared.Verdict.the-variants.{Sound, Refused}
-use Rattle.rule.proofs.BoolLaws.{clash}
+use Rattle.rule.proofs.BoolLaws.{clash, fails-say, le-fails}
 use Rattle.rule.proofs.NumberLaws.{among-says, Gives}
 use Rattle.rule.proofs.RefusalLaws.{not-both}
 use Rattle.rule.proofs.TableLaws.{Within, Answers, decided, then, as-rows, sound-exactly, numbers, after-within, after}
@@ -29,7 +29,7 @@ use Rattle.rulefile.specs.Given.{writingOrder, Writing}
 use Rattle.rulefile.specs.declared.Written.{Written}
 use Rattle.rulefile.specs.declared.Written.the-variants.{Done, Refused as Unwritten}
 use Rattle.rulefile.proofs.ListLaws.{length-upTo}
-use Rattle.rulefile.proofs.FaultLaws.{fails-say, le-fails, frame-fails, distance-fails}
+use Rattle.rulefile.proofs.FaultLaws.{frame-fails, distance-fails}
 use Rattle.rulefile.proofs.RowLaws.{drawing-within, shape-rows}
 use Rattle.rulefile.proofs.AnswerLaws.{put-kept}
 
@@ -38,21 +38,21 @@ use Rattle.rulefile.proofs.AnswerLaws.{put-kept}
 module _ (f : List ℕ) where
   pub file-within : Within readingOrder (Reading f)
   file-within n x (at-1 a) = record { number = refl; listed = refl }
-  file-within n x (drawing r) = let w = drawing-within _ _ _ n x r in record { number = w .number; listed = among-says n 1 drawingOrder .1 (inr (w .listed)) }
+  file-within n x (drawing r) = let w = drawing-within _ _ n x r in record { number = w .number; listed = among-says n 1 drawingOrder .1 (inr (w .listed)) }
 
   pub file-answers : Answers (Reading f) readingOrder (verdictOn f)
   unfolding verdictOn firstOf drawingIn
   file-answers =
       then _ (decided (Reading f) 1 (fails-say (frame-fails f)) at-1 says) (λ _.
       as-rows (λ n x q. (drawing, rest n x q))
-      (shape-rows (drawingIn f) (trailerIn f .spare) _ (distance-fails (trailerIn f) (length f)) (λ h. length-upTo _ _)))
+      (shape-rows (drawingIn f) _ (distance-fails (trailerIn f) (length f)) (λ h. length-upTo _ _)))
     where
       says : (y : Refusal) → Reading f 1 y → (Frame ≡ y) × BadFrame f
       says y (at-1 a) = (refl, a)
-      says y (drawing r) = clash (drawing-within _ _ _ _ _ r .listed) refl
+      says y (drawing r) = clash (drawing-within _ _ _ _ r .listed) refl
 
       rest : (n : ℕ) (x : Refusal) → among n drawingOrder ≡ true → Reading f n x
-          → DrawingRow (drawingIn f) (trailerIn f .spare) (BadDistance (trailerIn f) (length f)) n x
+          → DrawingRow (drawingIn f) (BadDistance (trailerIn f) (length f)) n x
       rest n x q (at-1 a) = clash q refl
       rest n x q (drawing r) = r
 
@@ -60,10 +60,10 @@ module _ (f : List ℕ) where
 pub file-gives : (f : List ℕ) → Gives readingOrder (verdictOn f)
 file-gives f = numbers (file-within f) (file-answers f)
 
-pub rule-answers : (r : Rule) → length (r .pairs) ≡ 8 → Answers (DrawingRow (drawn r) 0 (LongNote (r .length))) drawingOrder (verdictOf r)
+pub rule-answers : (r : Rule) → length (r .pairs) ≡ 8 → Answers (DrawingRow (drawn r) (LongNote (r .length))) drawingOrder (verdictOf r)
 unfolding verdictOf firstOf drawn
 rule-answers r eight =
-    shape-rows (drawn r) 0 _ (le-fails (r .length) 1024) (λ h. length-take-le (r .shape .pairs) (r .pairs) (omega arith))
+    shape-rows (drawn r) _ (le-fails (r .length) 1024) (λ h. length-take-le (r .shape .pairs) (r .pairs) (omega arith))
 
 -- bytes that are put into an output
 
@@ -158,11 +158,11 @@ module _ (f : List ℕ) where
 
 module _ (r : Rule) {out : List ℕ} {w : Written} {out′ : List ℕ} (eight : length (r .pairs) ≡ 8) (kept : WritePromise r out w out′) where
   pub write-gives : (x : Refusal) → (w ≡ Unwritten x) ↔ Given (Writing r (length out)) x writingOrder
-  write-gives = put-gives (drawing-within _ _ _) refl (rule-answers r eight) kept
+  write-gives = put-gives (drawing-within _ _) refl (rule-answers r eight) kept
 
   -- done exactly when no row holds; the room is one of them
   pub write-done : (n : ℕ) → (w ≡ Done n) ↔ (NoRow (Writing r (length out)) × (n ≡ length (fileOf (drawn r))))
-  write-done = put-does (drawing-within _ _ _) refl (rule-answers r eight) kept
+  write-done = put-does (drawing-within _ _) refl (rule-answers r eight) kept
 
   pub write-ends : Ends (Writing r (length out)) writingOrder (writtenTold w) (out′ ≡ out)
-  write-ends = put-ends (drawing-within _ _ _) refl (rule-answers r eight) kept
+  write-ends = put-ends (drawing-within _ _) refl (rule-answers r eight) kept

@@ -141,7 +141,7 @@ module _ (f : List ℕ) {ok : Bool} (is : ok ≡ framed f) (right : not ok ≡ f
     pairs-before-trailer = omega (arith, distances .trailer-in)
 
     pub pairs-few : t .shape .pairs ≤ 8
-    pairs-few = headed .ranged .pairs-in
+    pairs-few = headed .ranged .few-pairs
 
     pub pairs-whole : length (take (length f - 12 - (length f - t .pairs)) (drop (length f - t .pairs) f)) ≡ 16 * t .shape .pairs
     pairs-whole = pairs-long f t (headed .placed)
@@ -161,7 +161,7 @@ module _ (f : List ℕ) {ok : Bool} (is : ok ≡ framed f) (right : not ok ≡ f
       body-told =
           let g = headed .ranged in
           checked
-          ∙ in-range (t .shape) (tableBy f t) ps (g .states-in) (g .some-pairs) (g .pairs-in)
+          ∙ in-range (t .shape) (tableBy f t) ps (g .numbers .few-states) (g .some-pairs) (g .few-pairs)
           ∙ rw cut-off (ap firstOf body-conditions)
           ∙ sym past-head
 

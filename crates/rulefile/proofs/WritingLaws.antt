@@ -13,6 +13,7 @@ use Rattle.octets.specs.Copies.{copied}
 use Rattle.octets.proofs.CopyLaws.{copied-whole}
 use Rattle.octets.proofs.ListLaws.{part-more}
 use Rattle.rule.specs.Drawing.{drawn}
+use Rattle.rule.specs.Range.{Classed, Ranged}
 use Rattle.rule.specs.Refusals.{firstOf, conditions}
 use Rattle.rule.proofs.BoolLaws.{le-says}
 use Rattle.rule.proofs.RefusalLaws.{append-hit, append-more, first-sound}
@@ -24,7 +25,7 @@ use Rattle.rule.specs.declared.Refusal.the-variants.{Class, Range, Distance, Ro
 use Rattle.rule.specs.declared.Verdict.{Verdict}
 use Rattle.rule.specs.declared.Verdict.the-variants.{Sound, Refused as Unsound}
 use Rattle.trailer.proofs.HeadLaws.{third-refused, third-sound}
-use Rattle.trailer.proofs.SoundLaws.{Classed, classed-says, Ranged, ranged-says, passed, cells-in}
+use Rattle.trailer.proofs.SoundLaws.{classed-says, ranged-says, passed, cells-in}
 use Rattle.rulefile.specs.Layout.{pairsOut, trailerOut, fileOf}
 use Rattle.rulefile.specs.Writing.{noted, measureConditions, verdictOf, PutPromise}
 use Rattle.rulefile.specs.declared.Written.{Written}
@@ -62,7 +63,7 @@ module _ (a b : Verdict) {v : Verdict} (is : v ≡ firstOf (a ∷ b ∷ [])) (e 
 
 pub record Measured (s : Shape) (length : ℕ) : Type 0 where
   pub classed : Classed s
-  pub ranged : Ranged s 0
+  pub ranged : Ranged s
   pub note-in : length ≤ 1024
 
 pub measured-sound : (s : Shape) (length : ℕ) → firstOf (measureConditions s length) ≡ Sound → Measured s length
@@ -72,7 +73,7 @@ measured-sound s length e =
     let c = first-sound _ _ .0 (b .1) in
     record {
       classed = passed Class (classed-says s) .0 (a .0);
-      ranged = passed Range (ranged-says s 0) .0 (b .0);
+      ranged = passed Range (ranged-says s) .0 (b .0);
       note-in = passed Distance (le-says length 1024) .0 (c .0);
     }
 
@@ -117,7 +118,7 @@ module _ (r : Rule) {v : Verdict} (head : v ≡ firstOf (measureConditions (r .s
     measured = measured-sound (r .shape) (r .length) (sym head ∙ sound)
 
     pub pairs-few : r .shape .pairs ≤ 8
-    pairs-few = measured .ranged .pairs-in
+    pairs-few = measured .ranged .few-pairs
 
     -- the note and the table that are used lie in their arrays
     pub note-in-array : length (r .note) ≡ 1024 → r .length ≤ length (r .note)
@@ -145,7 +146,7 @@ module _ (r : Rule) {v : Verdict} (head : v ≡ firstOf (measureConditions (r .s
       told =
           let g = measured .ranged in
           checked
-          ∙ in-range (r .shape) (take (r .shape .states * r .shape .events) (r .table)) (r .pairs) (g .states-in) (g .some-pairs) (g .pairs-in)
+          ∙ in-range (r .shape) (take (r .shape .states * r .shape .events) (r .table)) (r .pairs) (g .numbers .few-states) (g .some-pairs) (g .few-pairs)
           ∙ ap firstOf (sym (conditions-note (r .shape) (take (r .length) (r .note)) _ _))
           ∙ sym (append-more (measureConditions (r .shape) (r .length)) (conditions (drawn r)) (sym head ∙ sound))
 

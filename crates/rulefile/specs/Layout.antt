@@ -15,8 +15,7 @@ unfoldable pub trailerOf : List ℕ → Trailer
 trailerOf t =
     record {
       shape =
-          record { class = getD t 0 0; states = getD t 1 0; events = getD t 2 0; pairs = getD t 3 0; initial = stateNo (getD t 4 0) };
-      spare = getD t 5 0;
+          record { class = getD t 0 0; states = getD t 1 0; events = getD t 2 0; pairs = getD t 3 0; initial = stateNo (getD t 4 0); mode = getD t 5 0 };
       table = valueOf (take 2 (drop 6 t));
       pairs = valueOf (take 2 (drop 8 t));
     }
@@ -65,7 +64,7 @@ pairsOut ps m = flatUpTo (λ i. pairOut (getD ps i noPair)) m
 -- the trailer that a shape has
 unfoldable pub trailerOut : Shape → List ℕ
 trailerOut s =
-    (s .class ∷ s .states ∷ s .events ∷ s .pairs ∷ s .initial .0 ∷ 0 ∷ [])
+    (s .class ∷ s .states ∷ s .events ∷ s .pairs ∷ s .initial .0 ∷ s .mode ∷ [])
     ++ (digits 2 (tableBack s) ++ (digits 2 (pairsBack s) ++ (72 ∷ 82 ∷ [])))
 
 -- the file of a drawing

@@ -36,7 +36,7 @@ partsBy Sound f =
 partsBy (Refused r) f =
     record {
       verdict = Refused r;
-      shape = record { class = 0; states = 0; events = 0; pairs = 0; initial = stateNo 0 };
+      shape = record { class = 0; states = 0; events = 0; pairs = 0; initial = stateNo 0; mode = 0 };
       start = 0;
       end = 0;
       pairs = replicate 8 noPair;

@@ -25,7 +25,7 @@ noted length = refuseIf (not (leb length 1024)) Distance
 
 -- the conditions of a rule by value in order: 2 to 4 of a shape and a note's length, and then 5 to 10
 abbrev pub measureConditions : Shape → ℕ → List Verdict
-measureConditions s length = class s ∷ range s 0 ∷ noted length ∷ []
+measureConditions s length = class s ∷ range s ∷ noted length ∷ []
 
 abbrev pub ruleConditions : Rule → List Verdict
 ruleConditions r = measureConditions (r .shape) (r .length) ++ conditions (drawn r)

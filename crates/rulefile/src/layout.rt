@@ -29,8 +29,8 @@ pub(crate) fn trailer_of(bytes: &[u8]) -> Trailer
             events: bytes[2],
             pairs: bytes[3],
             initial: StateNo(bytes[4]),
+            mode: bytes[5],
         },
-        spare: bytes[5],
         table,
         pairs,
     }
@@ -66,6 +66,7 @@ pub(crate) fn refused(refusal: Refusal) -> Contents
             events: 0,
             pairs: 0,
             initial: StateNo(0),
+            mode: 0,
         },
         start: 0,
         end: 0,

@@ -2,7 +2,8 @@
 // crate making makes it.
 ghost use mathlib.Core.Path.{_≡_};
 ghost use Prim.Native.Nat.{_+_, _*_};
-ghost use Rattle.sheet.specs.Opening.{inRange, openedOf};
+ghost use Rattle.sheet.specs.Opening.{openedOf};
+use rule::Limits;
 use rule::Rule;
 use rule::StateNo;
 
@@ -17,15 +18,6 @@ pub struct Head {
 pub enum Opened {
     Sheet(Head),
     Refused,
-}
-
-// Whether N and K are in range, and the initial state is one of the N: the tests of the definition, joined as there.
-fn in_range(states: u8, events: u8, initial: u8) -> bool
-    ensures { λ r. ⌜ r ≡ inRange states events initial ⌝ }
-{
-    let cells = (1 <= states)
-        & ((states <= Rule::STATES) & ((1 <= events) & (events <= Rule::EVENTS)));
-    cells & (initial < states)
 }
 
 // The length of a sheet of so many states and events: its cells, and six bytes.
@@ -55,8 +47,12 @@ pub fn open(sheet: &[u8]) -> Opened
     }
     let states = sheet[len - 6];
     let events = sheet[len - 5];
-    let initial = sheet[len - 4];
-    if !in_range(states, events, initial) {
+    let initial = StateNo(sheet[len - 4]);
+    let limits = Limits {
+        states: Rule::STATES,
+        events: Rule::EVENTS,
+    };
+    if !limits.hold(states, events, initial) {
         return Opened::Refused;
     }
     let whole = size(states, events);
@@ -69,6 +65,6 @@ pub fn open(sheet: &[u8]) -> Opened
     Opened::Sheet(Head {
         states,
         events,
-        initial: StateNo(initial),
+        initial,
     })
 }

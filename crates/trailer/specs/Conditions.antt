@@ -4,7 +4,8 @@ use Prim.Native.Nat.{ℕ, _+_, _-_, _*_}
 use mathlib.Core.Bool.{Bool, not, _&&_, _||_}
 use mathlib.Core.List.{List, [], _∷_}
 use lib.ListN.{length, getD}
-use lib.Dec.{leb, ltb, eqb}
+use lib.Dec.{leb, eqb}
+use Rattle.rule.specs.Range.{ruleLimits, mostPairs, between, inRange}
 use Rattle.rule.specs.Refusals.{refuseIf}
 use Rattle.rule.specs.declared.Shape.{Shape}
 use Rattle.rule.specs.declared.Refusal.the-variants.{Frame, Class, Range, Distance}
@@ -21,19 +22,19 @@ frame f = refuseIf (not (framed f)) Frame
 
 -- 2: class not 1 to 4
 unfoldable pub classed : Shape → Bool
-classed s = leb 1 (s .class) && leb (s .class) 4
+classed s = between 1 4 (s .class)
 
 abbrev pub class : Shape → Verdict
 class s = refuseIf (not (classed s)) Class
 
 -- 3: N, K, m out of range, initial state >= N, byte 5 not 0, or m not 1 in class 1, 2, 4
-unfoldable pub ranged : Shape → ℕ → Bool
-ranged s spare =
-    leb 1 (s .states) && (leb (s .states) 64 && (leb 1 (s .events) && (leb (s .events) 32 && (leb 1 (s .pairs) && (leb (s .pairs) 8
-    && (ltb (s .initial .0) (s .states) && (eqb spare 0 && (eqb (s .class) 3 || eqb (s .pairs) 1))))))))
+unfoldable pub ranged : Shape → Bool
+ranged s =
+    inRange ruleLimits (s .states) (s .events) (s .initial .0)
+    && (between 1 mostPairs (s .pairs) && (eqb (s .mode) 0 && (eqb (s .class) 3 || eqb (s .pairs) 1)))
 
-abbrev pub range : Shape → ℕ → Verdict
-range s spare = refuseIf (not (ranged s spare)) Range
+abbrev pub range : Shape → Verdict
+range s = refuseIf (not (ranged s)) Range
 
 -- the distances from the file's end back to the pairs and back to the table
 abbrev pub pairsBack : Shape → ℕ
@@ -52,14 +53,14 @@ abbrev pub distance : Trailer → ℕ → Verdict
 distance t size = refuseIf (not (placed t size)) Distance
 
 -- the conditions of a shape, and of a trailer in a file of so many bytes, with their numbers
-abbrev pub shapeConditions : Shape → ℕ → List Verdict
-shapeConditions s spare = class s ∷ range s spare ∷ []
+abbrev pub shapeConditions : Shape → List Verdict
+shapeConditions s = class s ∷ range s ∷ []
 
 abbrev pub shapeOrder : List ℕ
 shapeOrder = 2 ∷ 3 ∷ []
 
 abbrev pub headConditions : Trailer → ℕ → List Verdict
-headConditions t size = class (t .shape) ∷ range (t .shape) (t .spare) ∷ distance t size ∷ []
+headConditions t size = class (t .shape) ∷ range (t .shape) ∷ distance t size ∷ []
 
 abbrev pub headOrder : List ℕ
 headOrder = 2 ∷ 3 ∷ 4 ∷ []

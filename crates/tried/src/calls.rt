@@ -40,6 +40,7 @@ fn shape_of(bytes: &[u8]) -> Shape
         events: bytes[2],
         pairs: bytes[3],
         initial: StateNo(bytes[4]),
+        mode: 0,
     }
 }
 

@@ -19,7 +19,7 @@ use trailer::shaped;
 fn measured(shape: Shape, length: usize) -> Verdict
     ensures { λ r. ⌜ r ≡ firstOf (measureConditions shape length) ⌝ }
 {
-    let verdict = shaped(shape, 0);
+    let verdict = shaped(shape);
     let Verdict::Sound = verdict else {
         return verdict;
     };
@@ -67,7 +67,7 @@ fn put_trailer(out: &mut [u8], shape: Shape)
         shape.events,
         shape.pairs,
         initial.0,
-        0,
+        shape.mode,
         (table % 256) as u8,
         (table / 256 % 256) as u8,
         (pairs % 256) as u8,
