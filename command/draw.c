@@ -40,9 +40,10 @@ static enum status draw_text(const struct arguments *arguments, const uint8_t *t
     static struct loaded loaded;
     const char *file = arguments->operand[0];
     drawing_read(text, len, &drawing);
-    for (size_t i = 0; i < drawing.complaint_count; i++) tell(file, drawing.complaints[i].line, "%s", drawing.complaints[i].words);
-    enum status status = drawing.complaint_count > 0 ? ANSWER_NO : to_rule(file, &drawing, !arguments->no_names, &loaded);
-    drawing_free(&drawing);
+    const struct complaints *complaints = &drawing.complaints;
+    for (size_t i = 0; i < complaints->count; i++) tell(file, complaints->list[i].line, "%s", complaints->list[i].words);
+    enum status status = complaints->count > 0 ? ANSWER_NO : to_rule(file, &drawing, !arguments->no_names, &loaded);
+    complaints_free(&drawing.complaints);
     return status == DONE ? write_file(arguments->output, file, loaded.bytes, loaded.len) : status;
 }
 

@@ -1,33 +1,21 @@
 /* drawing.c: a rule drawn in text (docs/FORMATS.md), read, with everything told that is wrong with it.
  *
- * The text is cut into tokens, and the tokens into statements: a statement is a line, and the next one too where a line ends
- * with a comma. The first walk over the statements takes what declares something (class, codes, rows, note); the second takes
- * what uses names (start, accept, moves), so that a state may be used above its row.
+ * The first walk over the statements takes what declares something (class, codes, rows, note); the second takes what uses
+ * names (start, accept, moves), so that a state may be used above its row.
  */
 #include "drawing.h"
 
-#include <stdarg.h>
 #include <stdio.h>
 #include <stdlib.h>
 #include <string.h>
 
+#include "tokens.h"
+
 enum { NOT_DRAWN = 255 };
-
-enum kind { WORD, STRING, ARROW, COMMA, EQUALS, SPOILED, END };
-
-struct token {
-    enum kind kind;
-    size_t line;
-    const uint8_t *text;
-    size_t len;
-};
 
 struct reader {
     struct drawing *drawing;
-    const uint8_t *text;
-    size_t len, at, line;
-    struct token *tokens; /* an END after each statement */
-    size_t count, size;
+    struct complaints *complaints; /* of the drawing */
     const struct token *start_word;
     const struct token *row[PACHALLU_STATES_MAX], *pair[PACHALLU_PAIRS_MAX]; /* the statement of each */
     bool code_drawn[PACHALLU_EVENTS_MAX];
@@ -35,143 +23,10 @@ struct reader {
     bool too_many_codes, too_many_states;
 };
 
-/* ---- complaints */
-
-static void complain(struct drawing *drawing, size_t line, const char *format, ...) PRINTF_LIKE(3, 4);
-
-static void complain(struct drawing *drawing, size_t line, const char *format, ...) {
-    char words[1024];
-    va_list list;
-    va_start(list, format);
-    vsnprintf(words, sizeof words, format, list);
-    va_end(list);
-    size_t order = drawing->complaint_count++, len = strlen(words) + 1;
-    if ((order & (order + 1)) == 0) /* 0, 1, 3, 7 ..: the room is doubled */
-        drawing->complaints = room_for(drawing->complaints, 2 * (order + 1) * sizeof *drawing->complaints);
-    drawing->complaints[order] = (struct complaint){line, order, room_for(NULL, len)};
-    memcpy(drawing->complaints[order].words, words, len);
-}
-
-static int by_line(const void *left, const void *right) {
-    const struct complaint *a = left, *b = right;
-    if (a->line != b->line) return a->line < b->line ? -1 : 1;
-    return a->order < b->order ? -1 : a->order > b->order;
-}
-
-void drawing_free(struct drawing *drawing) {
-    for (size_t i = 0; i < drawing->complaint_count; i++) free(drawing->complaints[i].words);
-    free(drawing->complaints);
-}
-
-/* The token as a message shows it. */
-static const char *seen(const struct token *token) {
-    switch (token->kind) {
-    case END: return "the end of the line";
-    case ARROW: return "\"->\"";
-    case STRING: return "a text in quotation marks";
-    default: return quoted(token->text, token->len);
-    }
-}
-
-/* ---- tokens */
-
-static void add_token(struct reader *in, enum kind kind, size_t len) {
-    if (in->count == in->size) in->tokens = room_for(in->tokens, (in->size = 2 * in->size + 64) * sizeof *in->tokens);
-    in->tokens[in->count++] = (struct token){kind, in->line, in->text + in->at, len};
-    in->at += len;
-}
-
-/* The length of a text in quotation marks, the marks included; 0 if the second mark is missing in this line. */
-static size_t string_bytes(const uint8_t *text, size_t len) {
-    for (size_t i = 1; i < len && text[i] != '\n' && text[i] != '\r'; i++) {
-        if (text[i] == '"') return i + 1;
-        if (text[i] == '\\' && i + 1 < len && text[i + 1] != '\n' && text[i + 1] != '\r') i++;
-    }
-    return 0;
-}
-
-static size_t rest_of_line(const uint8_t *text, size_t len) {
-    size_t i = 0;
-    while (i < len && text[i] != '\n' && text[i] != '\r') i++;
-    return i;
-}
-
-static void add_string(struct reader *in) {
-    size_t len = string_bytes(in->text + in->at, in->len - in->at);
-    if (len > 0) {
-        add_token(in, STRING, len);
-        return;
-    }
-    complain(in->drawing, in->line, "a text begins with a quotation mark and does not end with one in this line");
-    add_token(in, SPOILED, rest_of_line(in->text + in->at, in->len - in->at));
-}
-
-/* A byte that begins no token. It is told, and what follows it in the line is passed over. */
-static void add_spoiled(struct reader *in) {
-    const uint8_t *text = in->text + in->at;
-    size_t seen_bytes = visible_bytes(text, in->len - in->at);
-    if (text[0] == '<' || text[0] == '>')
-        complain(in->drawing, in->line, "\"%c\" has no place here; an arrow is written ->", text[0]);
-    else if (seen_bytes > 0)
-        complain(in->drawing, in->line, "%s has no place in a drawing outside of a text in quotation marks", quoted(text, seen_bytes));
-    else if (text[0] < 0x80)
-        complain(in->drawing, in->line, "the control byte 0x%02x has no place in a drawing", (unsigned)text[0]);
-    else
-        complain(in->drawing, in->line, "byte 0x%02x begins no character of UTF-8 that can be seen: type this place anew", (unsigned)text[0]);
-    add_token(in, SPOILED, rest_of_line(text, in->len - in->at));
-}
-
-static void end_line(struct reader *in) {
-    /* after a comma the statement goes on in the next line */
-    if (in->count > 0 && in->tokens[in->count - 1].kind != COMMA && in->tokens[in->count - 1].kind != END) add_token(in, END, 0);
-    if (in->text[in->at] == '\r' && in->at + 1 < in->len && in->text[in->at + 1] == '\n') in->at++;
-    in->at++;
-    in->line++;
-}
-
-static void next_token(struct reader *in) {
-    const uint8_t *text = in->text + in->at;
-    size_t left = in->len - in->at, name = name_bytes(text, left);
-    if (text[0] == ' ' || text[0] == '\t')
-        in->at++;
-    else if (text[0] == '#')
-        in->at += rest_of_line(text, left);
-    else if (text[0] == '\n' || text[0] == '\r')
-        end_line(in);
-    else if (text[0] == ',' || text[0] == '=')
-        add_token(in, text[0] == ',' ? COMMA : EQUALS, 1);
-    else if (left > 1 && text[0] == '-' && text[1] == '>')
-        add_token(in, ARROW, 2);
-    else if (text[0] == '"')
-        add_string(in);
-    else if (name > 0)
-        add_token(in, WORD, name);
-    else
-        add_spoiled(in);
-}
-
-static void cut_into_tokens(struct reader *in) {
-    if (in->len >= 3 && memcmp(in->text, "\xef\xbb\xbf", 3) == 0) in->at = 3;
-    while (in->at < in->len) next_token(in);
-    if (in->count == 0 || in->tokens[in->count - 1].kind != END) add_token(in, END, 0);
-}
-
-static bool says(const struct token *token, const char *word) {
-    return token->kind == WORD && token->len == strlen(word) && memcmp(token->text, word, token->len) == 0;
-}
-
-static int number_of(const struct token *token) { return token->kind == WORD ? number_in(token->text, token->len) : -1; }
-
-/* Is there a token of this kind in the statement, from here on? */
-static bool has(const struct token *token, enum kind kind) {
-    while (token->kind != END && token->kind != kind) token++;
-    return token->kind == kind;
-}
-
 /* Nothing more may stand in this statement. */
 static void want_end(struct reader *in, const struct token *token) {
     if (token->kind != END && token->kind != SPOILED)
-        complain(in->drawing, token->line, "%s is too much here: the line should end before it", seen(token));
+        complain(in->complaints, token->line, "%s is too much here: the line should end before it", seen(token));
 }
 
 /* ---- what declares something */
@@ -179,7 +34,7 @@ static void want_end(struct reader *in, const struct token *token) {
 static void take_class(struct reader *in, const struct token *token) {
     struct drawing *d = in->drawing;
     if (d->class_line) {
-        complain(d, token->line, "the class is given already, in line %zu", d->class_line);
+        complain(in->complaints, token->line, "the class is given already, in line %zu", d->class_line);
         return;
     }
     d->class_line = token->line;
@@ -189,19 +44,19 @@ static void take_class(struct reader *in, const struct token *token) {
     if (d->rule.class > 0)
         want_end(in, token + 1);
     else
-        complain(d, d->class_line, "%s is no class: safety, guarantee, obligation or response is wanted", seen(token));
+        complain(in->complaints, d->class_line, "%s is no class: safety, guarantee, obligation or response is wanted", seen(token));
 }
 
 /* Declares a code, with a name if there is one. */
 static void declare_code(struct reader *in, size_t number, const struct token *name, size_t line) {
     struct rule *rule = &in->drawing->rule;
     if (number >= PACHALLU_EVENTS_MAX) {
-        if (!in->too_many_codes) complain(in->drawing, line, "there is no room for code %zu: codes are numbered 0 to 31", number);
+        if (!in->too_many_codes) complain(in->complaints, line, "there is no room for code %zu: codes are numbered 0 to 31", number);
         in->too_many_codes = true;
         return;
     }
     if (in->code_drawn[number]) {
-        complain(in->drawing, line, "code %zu is given twice", number);
+        complain(in->complaints, line, "code %zu is given twice", number);
         return;
     }
     in->code_drawn[number] = true;
@@ -209,9 +64,9 @@ static void declare_code(struct reader *in, size_t number, const struct token *n
     if (!name) return;
     const char *fault = not_a_name(name->text, name->len);
     if (fault)
-        complain(in->drawing, line, "%s %s", seen(name), fault);
+        complain(in->complaints, line, "%s %s", seen(name), fault);
     else if (find_name(rule->names.code, PACHALLU_EVENTS_MAX, name->text, name->len) >= 0)
-        complain(in->drawing, line, "the name %s is given to two codes", seen(name));
+        complain(in->complaints, line, "the name %s is given to two codes", seen(name));
     else
         rule->names.code[number] = name_of(name->text, name->len);
 }
@@ -221,7 +76,7 @@ static void take_codes(struct reader *in, const struct token *token) {
     size_t line = token->line;
     token++;
     if (!in->codes_line) in->codes_line = line;
-    if (token->kind == END) complain(in->drawing, line, "codes is followed by no code");
+    if (token->kind == END) complain(in->complaints, line, "codes is followed by no code");
     while (token->kind == WORD) {
         int number = number_of(token);
         if (token[1].kind == EQUALS && (number < 0 || token[2].kind != WORD)) break;
@@ -235,7 +90,7 @@ static void take_codes(struct reader *in, const struct token *token) {
         }
     }
     if (token->kind != END && token->kind != SPOILED)
-        complain(in->drawing, line, "NAME or NUMBER=NAME with spaces between them are wanted after codes; %s does not fit", seen(token));
+        complain(in->complaints, line, "NAME or NUMBER=NAME with spaces between them are wanted after codes; %s does not fit", seen(token));
 }
 
 /* A row: its place among the rows is the state's number. */
@@ -245,18 +100,18 @@ static void declare_state(struct reader *in, const struct token *token) {
     size_t state = in->state_count;
     int number = number_of(token), twice = number < 0 ? find_name(d->rule.names.state, state, token->text, token->len) : -1;
     if (twice >= 0) {
-        complain(d, token->line, "the state %s has a row already, in line %zu", seen(token), d->row_line[twice]);
+        complain(in->complaints, token->line, "the state %s has a row already, in line %zu", seen(token), d->row_line[twice]);
         return;
     }
     if (state == PACHALLU_STATES_MAX) {
-        if (!in->too_many_states) complain(d, token->line, "there is no room for %s: a rule has at most 64 states", seen(token));
+        if (!in->too_many_states) complain(in->complaints, token->line, "there is no room for %s: a rule has at most 64 states", seen(token));
         in->too_many_states = true;
         return;
     }
     if (number >= 0 && (size_t)number != state)
-        complain(d, token->line, "a state that has no name is written by its number, and this row is that of state %zu, not %d", state, number);
+        complain(in->complaints, token->line, "a state that has no name is written by its number, and this row is that of state %zu, not %d", state, number);
     else if (number < 0 && fault)
-        complain(d, token->line, "%s %s", seen(token), fault);
+        complain(in->complaints, token->line, "%s %s", seen(token), fault);
     else if (number < 0)
         d->rule.names.state[state] = name_of(token->text, token->len);
     d->row_line[state] = token->line;
@@ -288,11 +143,11 @@ static void take_note_text(struct reader *in, const struct token *token) {
         taken = 1;
         int byte = text[at] == '\\' ? escaped(text + at, token->len - 1 - at, &taken) : text[at];
         if (byte < 0) {
-            complain(in->drawing, token->line, "%s is not known in a note: \\\", \\\\, \\n and \\x with two digits are", quoted(text + at, 2));
+            complain(in->complaints, token->line, "%s is not known in a note: \\\", \\\\, \\n and \\x with two digits are", quoted(text + at, 2));
             return;
         }
         if (taken == 1 && (taken = visible_bytes(text + at, token->len - at)) == 0) {
-            complain(in->drawing, token->line, "byte 0x%02x has no place in a note; write it \\x%02x", (unsigned)text[at], (unsigned)text[at]);
+            complain(in->complaints, token->line, "byte 0x%02x has no place in a note; write it \\x%02x", (unsigned)text[at], (unsigned)text[at]);
             return;
         }
         bool escape = text[at] == '\\';
@@ -305,18 +160,18 @@ static void take_note(struct reader *in, const struct token *token) {
     struct rule *rule = &in->drawing->rule;
     bool fits = rule->note_len <= NOTE_MOST;
     if (token[1].kind != STRING) {
-        if (token[1].kind != SPOILED) complain(in->drawing, token->line, "note wants a text in quotation marks, not %s", seen(token + 1));
+        if (token[1].kind != SPOILED) complain(in->complaints, token->line, "note wants a text in quotation marks, not %s", seen(token + 1));
         return;
     }
     take_note_text(in, token + 1);
-    if (fits && rule->note_len > NOTE_MOST) complain(in->drawing, token->line, "the note is over 1024 bytes here, the most for a note");
+    if (fits && rule->note_len > NOTE_MOST) complain(in->complaints, token->line, "the note is over 1024 bytes here, the most for a note");
     want_end(in, token + 2);
 }
 
 static void take_start(struct reader *in, const struct token *token) {
     struct drawing *d = in->drawing;
     if (d->start_line) {
-        complain(d, token->line, "the start is given already, in line %zu", d->start_line);
+        complain(in->complaints, token->line, "the start is given already, in line %zu", d->start_line);
         return;
     }
     d->start_line = token->line;
@@ -328,7 +183,7 @@ static void take_accept(struct reader *in, const struct token *token) {
         in->drawing->pair_line[in->pair_count] = token->line;
         in->pair[in->pair_count] = token;
     } else if (in->pair_count == PACHALLU_PAIRS_MAX) {
-        complain(in->drawing, token->line, "there is no room for another pair: a rule has at most 8");
+        complain(in->complaints, token->line, "there is no room for another pair: a rule has at most 8");
     }
     in->pair_count++;
 }
@@ -336,7 +191,7 @@ static void take_accept(struct reader *in, const struct token *token) {
 static void take_declaration(struct reader *in, const struct token *token) {
     if (token->kind == SPOILED) return; /* told already */
     if (token->kind != WORD)
-        complain(in->drawing, token->line, "a line begins with a state or with class, codes, start, accept or note, not with %s", seen(token));
+        complain(in->complaints, token->line, "a line begins with a state or with class, codes, start, accept or note, not with %s", seen(token));
     else if (says(token, "class"))
         take_class(in, token);
     else if (says(token, "codes"))
@@ -350,7 +205,7 @@ static void take_declaration(struct reader *in, const struct token *token) {
     else if (has(token, ARROW) || has(token, SPOILED))
         declare_state(in, token);
     else
-        complain(in->drawing, token->line,
+        complain(in->complaints, token->line,
                  "%s begins no line of a drawing: those are STATE CODE -> STATE, .. and class, codes, start, accept and note", seen(token));
 }
 
@@ -362,20 +217,20 @@ static int state_named(struct reader *in, const struct token *token) {
     int number = number_of(token);
     if (token->kind == SPOILED) return -1;
     if (token->kind != WORD) {
-        complain(d, token->line, "a state is wanted, not %s", seen(token));
+        complain(in->complaints, token->line, "a state is wanted, not %s", seen(token));
         return -1;
     }
     if (number < 0) {
         int found = find_name(d->rule.names.state, in->state_count, token->text, token->len);
-        if (found < 0 && !in->too_many_states) complain(d, token->line, "%s is no state: no row begins with it", seen(token));
+        if (found < 0 && !in->too_many_states) complain(in->complaints, token->line, "%s is no state: no row begins with it", seen(token));
         return found;
     }
     if ((size_t)number >= in->state_count) {
-        if (!in->too_many_states) complain(d, token->line, "there is no state %d: there are %zu rows, numbered from 0", number, in->state_count);
+        if (!in->too_many_states) complain(in->complaints, token->line, "there is no state %d: there are %zu rows, numbered from 0", number, in->state_count);
         return -1;
     }
     if (d->rule.names.state[number].len > 0) {
-        complain(d, token->line, "state %d has a name: write %s", number, d->rule.names.state[number].text);
+        complain(in->complaints, token->line, "state %d has a name: write %s", number, d->rule.names.state[number].text);
         return -1;
     }
     return number;
@@ -389,17 +244,17 @@ static int code_named(struct reader *in, const struct token *token, const struct
         int found = find_name(d->rule.names.code, d->rule.codes, token->text, token->len);
         if (found >= 0 || in->too_many_codes) return found;
         if (before->line != token->line)
-            complain(d, token->line, "%s is none of the codes (the comma at the end of line %zu joins this line to it)", seen(token), before->line);
+            complain(in->complaints, token->line, "%s is none of the codes (the comma at the end of line %zu joins this line to it)", seen(token), before->line);
         else
-            complain(d, token->line, "%s is none of the codes", seen(token));
+            complain(in->complaints, token->line, "%s is none of the codes", seen(token));
         return -1;
     }
     if ((size_t)number >= d->rule.codes) {
-        if (!in->too_many_codes) complain(d, token->line, "there is no code %d: the highest is %d", number, (int)d->rule.codes - 1);
+        if (!in->too_many_codes) complain(in->complaints, token->line, "there is no code %d: the highest is %d", number, (int)d->rule.codes - 1);
         return -1;
     }
     if (d->rule.names.code[number].len > 0) {
-        complain(d, token->line, "code %d has a name: write %s", number, d->rule.names.code[number].text);
+        complain(in->complaints, token->line, "code %d has a name: write %s", number, d->rule.names.code[number].text);
         return -1;
     }
     return number;
@@ -419,20 +274,20 @@ static void resolve_pair(struct reader *in, size_t pair) {
     bool given[] = {false, false};
     const struct token *token = in->pair[pair] + 1;
     if (!says(token, "R") && !says(token, "P")) {
-        if (token->kind != SPOILED) complain(d, token->line, "accept wants R and states, P and states, or both, not %s", seen(token));
+        if (token->kind != SPOILED) complain(in->complaints, token->line, "accept wants R and states, P and states, or both, not %s", seen(token));
         return;
     }
     while (token->kind == WORD) {
         size_t side = says(token, "R") ? 0 : 1;
-        if (given[side]) complain(d, token->line, "%s is given twice in this pair", seen(token));
+        if (given[side]) complain(in->complaints, token->line, "%s is given twice in this pair", seen(token));
         given[side] = true;
         const struct token *set_word = token++;
         if (token->kind == END || says(token, "R") || says(token, "P"))
-            complain(d, set_word->line, "%s is followed by no state; leave it out where it has none", seen(set_word));
+            complain(in->complaints, set_word->line, "%s is followed by no state; leave it out where it has none", seen(set_word));
         for (; token->kind == WORD && !says(token, "R") && !says(token, "P"); token++) {
             int state = state_named(in, token);
             if (state >= 0 && in_set(*sets[side], (size_t)state))
-                complain(d, token->line, "the state %s is twice in %s", seen(token), side == 0 ? "R" : "P");
+                complain(in->complaints, token->line, "the state %s is twice in %s", seen(token), side == 0 ? "R" : "P");
             if (state >= 0) *sets[side] |= (uint64_t)1 << state;
         }
     }
@@ -452,7 +307,7 @@ struct row {
 static const struct token *take_move_codes(struct reader *in, struct row *row, const struct token *token, bool chosen[]) {
     for (; token->kind == WORD; token++) {
         if (says(token, "else")) {
-            if (row->rest_given) complain(in->drawing, token->line, "else is given twice in this row");
+            if (row->rest_given) complain(in->complaints, token->line, "else is given twice in this row");
             row->broken = row->broken || row->rest_given;
             row->rest_given = chosen[PACHALLU_EVENTS_MAX] = true;
             continue;
@@ -461,7 +316,7 @@ static const struct token *take_move_codes(struct reader *in, struct row *row, c
         if (code < 0) {
             row->broken = true;
         } else if (row->to[code] != NOT_DRAWN || chosen[code]) {
-            complain(in->drawing, token->line, "the move of %s by %s is drawn twice", told_state(&in->drawing->rule.names, row->state),
+            complain(in->complaints, token->line, "the move of %s by %s is drawn twice", told_state(&in->drawing->rule.names, row->state),
                      told_code(&in->drawing->rule.names, (size_t)code));
             row->broken = true;
         } else {
@@ -478,7 +333,7 @@ static const struct token *take_move(struct reader *in, struct row *row, const s
     token = take_move_codes(in, row, token, chosen);
     if (token->kind != ARROW || token == first) {
         if (token->kind != SPOILED)
-            complain(in->drawing, token->line, "%s is wanted here, not %s; a row is STATE CODE -> STATE, CODE -> STATE, else -> STATE",
+            complain(in->complaints, token->line, "%s is wanted here, not %s; a row is STATE CODE -> STATE, CODE -> STATE, else -> STATE",
                      token == first ? "a code or else" : "->", seen(token));
         return NULL;
     }
@@ -492,7 +347,8 @@ static const struct token *take_move(struct reader *in, struct row *row, const s
 }
 
 /* Names the codes of a row that have no move and no else. */
-static void complain_of_missing(struct drawing *d, const struct row *row) {
+static void complain_of_missing(struct reader *in, const struct row *row) {
+    struct drawing *d = in->drawing;
     char codes[700] = "";
     size_t used = 0;
     for (size_t code = 0; code < d->rule.codes; code++) {
@@ -505,7 +361,7 @@ static void complain_of_missing(struct drawing *d, const struct row *row) {
         used += (size_t)sprintf(codes + used, "%s%s", used ? ", " : "", word);
     }
     if (used > 0)
-        complain(d, d->row_line[row->state], "%s has no move for %s: draw it, or end the row with else -> STATE",
+        complain(in->complaints, d->row_line[row->state], "%s has no move for %s: draw it, or end the row with else -> STATE",
                  told_state(&d->rule.names, row->state), codes);
 }
 
@@ -517,10 +373,10 @@ static void resolve_row(struct reader *in, size_t state) {
     while ((token = take_move(in, &row, token)) && token->kind == COMMA) token++;
     if (!token || token->kind != END) row.broken = true;
     if (token && token->kind != END && token->kind != SPOILED)
-        complain(d, token->line, "a comma is wanted between two moves, before %s", seen(token));
+        complain(in->complaints, token->line, "a comma is wanted between two moves, before %s", seen(token));
     for (size_t code = 0; code < d->rule.codes && row.rest >= 0; code++)
         if (row.to[code] == NOT_DRAWN) row.to[code] = (uint8_t)row.rest;
-    if (!row.broken) complain_of_missing(d, &row);
+    if (!row.broken) complain_of_missing(in, &row);
     memcpy(d->rule.table + state * d->rule.codes, row.to, d->rule.codes);
 }
 
@@ -528,38 +384,37 @@ static void resolve_row(struct reader *in, size_t state) {
 
 static void want_whole(struct reader *in) {
     struct drawing *d = in->drawing;
-    if (!d->class_line) complain(d, 0, "there is no class: a line such as \"class response\" is wanted");
-    if (!in->codes_line) complain(d, 0, "there are no codes: a line such as \"codes backsight foresight\" is wanted");
-    if (in->state_count == 0) complain(d, 0, "there are no states: a line for each is wanted, such as \"half  foresight -> between, else -> lost\"");
-    if (!d->start_line) complain(d, 0, "there is no start: a line such as \"start between\" is wanted");
-    if (in->pair_count == 0) complain(d, 0, "nothing is accepted: a line such as \"accept R between\" is wanted");
+    if (!d->class_line) complain(in->complaints, 0, "there is no class: a line such as \"class response\" is wanted");
+    if (!in->codes_line) complain(in->complaints, 0, "there are no codes: a line such as \"codes backsight foresight\" is wanted");
+    if (in->state_count == 0) complain(in->complaints, 0, "there are no states: a line for each is wanted, such as \"half  foresight -> between, else -> lost\"");
+    if (!d->start_line) complain(in->complaints, 0, "there is no start: a line such as \"start between\" is wanted");
+    if (in->pair_count == 0) complain(in->complaints, 0, "nothing is accepted: a line such as \"accept R between\" is wanted");
     if (in->pair_count > 1 && d->rule.class != OBLIGATION && d->rule.class > 0)
-        complain(d, d->pair_line[1], "a rule of class %s has one pair, and this is a second accept", class_words[d->rule.class]);
+        complain(in->complaints, d->pair_line[1], "a rule of class %s has one pair, and this is a second accept", class_words[d->rule.class]);
 }
 
-static void for_each_statement(struct reader *in, void (*take)(struct reader *, const struct token *)) {
-    for (size_t i = 0; i < in->count; i++) {
-        const struct token *first = &in->tokens[i];
-        while (in->tokens[i].kind != END) i++;
+static void for_each_statement(struct reader *in, const struct tokens *tokens, void (*take)(struct reader *, const struct token *)) {
+    for (size_t i = 0; i < tokens->count; i++) {
+        const struct token *first = &tokens->list[i];
+        while (tokens->list[i].kind != END) i++;
         if (first->kind != END) take(in, first);
     }
 }
 
 void drawing_read(const uint8_t *text, size_t len, struct drawing *d) {
+    struct tokens tokens;
     struct reader in = {0};
     *d = (struct drawing){0};
     in.drawing = d;
-    in.text = text;
-    in.len = len;
-    in.line = 1;
-    cut_into_tokens(&in);
-    for_each_statement(&in, take_declaration);
+    in.complaints = &d->complaints;
+    tokens_cut(text, len, &tokens, in.complaints);
+    for_each_statement(&in, &tokens, take_declaration);
     d->rule.states = in.state_count;
     d->rule.pairs = in.pair_count < PACHALLU_PAIRS_MAX ? in.pair_count : PACHALLU_PAIRS_MAX;
     resolve_start(&in);
     for (size_t pair = 0; pair < d->rule.pairs; pair++) resolve_pair(&in, pair);
     for (size_t state = 0; state < in.state_count; state++) resolve_row(&in, state);
     want_whole(&in);
-    if (d->complaint_count > 0) qsort(d->complaints, d->complaint_count, sizeof *d->complaints, by_line);
-    free(in.tokens);
+    complaints_sort(in.complaints);
+    free(tokens.list);
 }

@@ -2,27 +2,20 @@
 #ifndef DRAWING_H
 #define DRAWING_H
 
+#include "complaints.h"
 #include "rule.h"
 
 /* The longest drawing. The text of every rule file is shorter. */
 enum { DRAWING_MOST = 1 << 20 };
 
-/* What is wrong at a line; line 0 is the drawing as a whole. */
-struct complaint {
-    size_t line, order;
-    char *words;
-};
-
 struct drawing {
     struct rule rule;
     /* where things are drawn; 0: nowhere */
     size_t class_line, start_line, row_line[PACHALLU_STATES_MAX], pair_line[PACHALLU_PAIRS_MAX];
-    struct complaint *complaints;
-    size_t complaint_count;
+    struct complaints complaints;
 };
 
-/* Reads a drawing. It is a rule where there are no complaints; they are in the order of the lines. */
+/* Reads a drawing. It is a rule where there are no complaints; they are in the order of the lines, and are to be freed. */
 void drawing_read(const uint8_t *text, size_t len, struct drawing *drawing);
-void drawing_free(struct drawing *drawing);
 
 #endif

@@ -210,42 +210,53 @@ static enum status write_in_place(const char *file, const uint8_t *bytes, size_t
 static int fill_and_rename(int fd, const char *beside, const char *file, mode_t mode, const uint8_t *bytes, size_t len) {
     int error = write_all(fd, bytes, len);
     if (!error && fchmod(fd, mode) != 0) error = errno;
-    if (!error && fsync(fd) != 0) error = errno;
+    if (!error && fsync(fd) != 0 && errno != EINVAL) error = errno; /* EINVAL: there is nothing to wait for */
     if (close(fd) != 0 && !error) error = errno;
     if (!error && rename(beside, file) != 0) error = errno;
     if (error) unlink(beside);
     return error;
 }
 
-static enum status replace(const char *file, mode_t mode, const uint8_t *bytes, size_t len) {
-    size_t size = strlen(file) + sizeof ".XXXXXX";
+/* Writes a file beside `path`, and puts it in its place when it is whole; errno of what failed, or 0. */
+static int replace(const char *path, mode_t mode, const uint8_t *bytes, size_t len) {
+    size_t size = strlen(path) + sizeof ".XXXXXX";
     char *beside = room_for(NULL, size);
-    snprintf(beside, size, "%s.XXXXXX", file);
+    snprintf(beside, size, "%s.XXXXXX", path);
     int fd = mkstemp(beside);
-    int error = fd < 0 ? errno : fill_and_rename(fd, beside, file, mode, bytes, len);
+    int error = fd < 0 ? errno : fill_and_rename(fd, beside, path, mode, bytes, len);
     free(beside);
-    return error ? cannot_write(file, error) : DONE;
+    return error;
+}
+
+/* The mode that a new file gets. */
+static mode_t usual_mode(void) {
+    mode_t mask = umask(0);
+    umask(mask);
+    return 0666 & ~mask;
+}
+
+static bool same_file(const char *source, const struct stat *old) {
+    struct stat read;
+    return strcmp(source, "-") != 0 && stat(source, &read) == 0 && read.st_dev == old->st_dev && read.st_ino == old->st_ino;
 }
 
 enum status write_file(const char *file, const char *source, const uint8_t *bytes, size_t len) {
-    struct stat old, read;
+    struct stat old;
+    int error = 0;
     if (!file || strcmp(file, "-") == 0) return write_standard_output(file, bytes, len);
     if (stat(file, &old) != 0) {
-        mode_t mask = umask(0);
-        umask(mask);
-        return errno == ENOENT ? replace(file, 0666 & ~mask, bytes, len) : cannot_write(file, errno);
+        error = errno == ENOENT ? replace(file, usual_mode(), bytes, len) : errno;
+        return error ? cannot_write(file, error) : DONE;
     }
     if (S_ISDIR(old.st_mode)) return cannot_write(file, EISDIR);
     if (!S_ISREG(old.st_mode)) return write_in_place(file, bytes, len);
-    if (strcmp(source, "-") != 0 && stat(source, &read) == 0 && read.st_dev == old.st_dev && read.st_ino == old.st_ino) {
+    if (same_file(source, &old)) {
         tell(file, 0, "is the file that was read, and is not written over: name another one with -o FILE");
         return FAILED;
     }
-    if (access(file, W_OK) != 0) return cannot_write(file, errno);
-    /* through a link to the file that it names */
-    char *target = realpath(file, NULL);
-    if (!target) return cannot_write(file, errno);
-    enum status status = replace(target, old.st_mode & 07777, bytes, len);
+    /* through a link, the file that it names */
+    char *target = access(file, W_OK) == 0 ? realpath(file, NULL) : NULL;
+    error = target ? replace(target, old.st_mode & 07777, bytes, len) : errno;
     free(target);
-    return status;
+    return error ? cannot_write(file, error) : DONE;
 }

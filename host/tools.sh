@@ -26,13 +26,14 @@ has() {
 # lock, unlock: of two that build in this folder at once, the second waits for the first
 lock() {
     mkdir -p "$built"
-    exec 9>"$built/lock"
+    # not a file of target/, which rt ci takes away
+    exec 9<"$top/crates.txt"
     flock -n 9 || {
         say "another command is building in this folder; waiting for it"
         flock 9
     }
 }
-unlock() { exec 9>&-; }
+unlock() { exec 9<&-; }
 
 # bring PACKAGE..: Debian's packages, by root; anybody else is told what to do
 bring() {

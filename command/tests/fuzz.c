@@ -54,10 +54,10 @@ static void round_trip(const struct loaded *loaded, const uint8_t *input, size_t
     uint8_t *exact = room_for(NULL, out.used);
     memcpy(exact, out.bytes, out.used);
     drawing_read(exact, out.used, &again);
-    if (again.complaint_count > 0) fail(again.complaints[0].words, input, len);
+    if (again.complaints.count > 0) fail(again.complaints.list[0].words, input, len);
     if (rule_to_file(&again.rule, true, bytes, &note) != loaded->len || memcmp(bytes, loaded->bytes, loaded->len) != 0)
         fail("the text of a rule is another rule", input, len);
-    drawing_free(&again);
+    complaints_free(&again.complaints);
     free(exact);
     sink_free(&out);
 }
@@ -81,16 +81,16 @@ static void try_drawing(const uint8_t *bytes, size_t len) {
     size_t note;
     drawings++;
     drawing_read(bytes, len, &drawing);
-    for (size_t i = 0; i < drawing.complaint_count; i++)
-        for (const char *at = drawing.complaints[i].words; *at; at++)
+    for (size_t i = 0; i < drawing.complaints.count; i++)
+        for (const char *at = drawing.complaints.list[i].words; *at; at++)
             if ((unsigned char)*at < 32) fail("a message has a control byte", bytes, len);
-    if (drawing.complaint_count == 0) {
+    if (drawing.complaints.count == 0) {
         drawn++;
         loaded.len = rule_to_file(&drawing.rule, true, loaded.bytes, &note);
         if (loaded.len > 0) judge_and_tell(&loaded, bytes, len);
         if (loaded.len > 0 && loaded.made.refusal > 0 && loaded.made.refusal < 7) fail("a drawing makes a spoiled file", bytes, len);
     }
-    drawing_free(&drawing);
+    complaints_free(&drawing.complaints);
 }
 
 static void try_rule(const uint8_t *bytes, size_t len) {
