@@ -47,12 +47,21 @@ static enum status draw_text(const struct arguments *arguments, const uint8_t *t
     return status == DONE ? write_file(arguments->output, file, loaded.bytes, loaded.len) : status;
 }
 
+/* A rule file in place of a drawing: no drawing could be one. */
+static bool is_rule_file(const uint8_t *bytes, size_t len) {
+    uint8_t sheet[PACHALLU_SHEET_MAX];
+    return pachallu_make(bytes, len, sheet, sizeof sheet).refusal == 0;
+}
+
 enum status command_draw(const struct arguments *arguments) {
     uint8_t *text = room_for(NULL, DRAWING_MOST + 1);
     size_t len;
     enum status status = read_file(arguments->operand[0], text, DRAWING_MOST + 1, &len);
     if (status == DONE && len > DRAWING_MOST) {
         tell(arguments->operand[0], 0, "is longer than %d bytes: that is no drawing", DRAWING_MOST);
+        status = ANSWER_NO;
+    } else if (status == DONE && is_rule_file(text, len)) {
+        tell(arguments->operand[0], 0, "is a rule file, and no drawing in text: pachallu text writes its drawing");
         status = ANSWER_NO;
     } else if (status == DONE) {
         status = draw_text(arguments, text, len);

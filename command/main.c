@@ -90,13 +90,16 @@ static enum status bad_use(const struct subcommand *sub, const char *what, const
 /* Takes the words after a subcommand. An option may stand anywhere; -- ends them. */
 static enum status take_words(const struct subcommand *sub, int count, char **words, struct arguments *arguments) {
     bool only_operands = false;
+    unsigned given = 0;
     for (int i = 0; i < count; i++) {
         const char *word = words[i];
         const struct option *option = only_operands ? NULL : option_called(sub, word);
         if (!only_operands && strcmp(word, "--") == 0) {
             only_operands = true;
         } else if (option) {
+            if (given & option->mask) return bad_use(sub, "this is given twice:", word);
             if (option->has_value && ++i == count) return bad_use(sub, "a file is missing after", word);
+            given |= option->mask;
             set_option(arguments, option, option->has_value ? words[i] : NULL);
         } else if (!only_operands && word[0] == '-' && word[1] != 0) {
             return bad_use(sub, "it has no option", word);

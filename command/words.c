@@ -22,6 +22,12 @@ static void say(struct growing *words, const char *format, ...) {
     if (words->used >= REFUSAL_WORDS) words->used = REFUSAL_WORDS - 1;
 }
 
+static bool is_text(const uint8_t *bytes, size_t len) {
+    for (size_t i = 0; i < len; i++)
+        if (bytes[i] < ' ' && bytes[i] != '\n' && bytes[i] != '\r' && bytes[i] != '\t') return false;
+    return len > 0;
+}
+
 static void no_rule_file(struct growing *words, const struct loaded *l) {
     if (l->len > PACHALLU_RULE_MAX)
         say(words, "this is no rule file: it has over %d bytes", PACHALLU_RULE_MAX);
@@ -30,6 +36,7 @@ static void no_rule_file(struct growing *words, const struct loaded *l) {
     else
         say(words, "this is no rule file: its last two bytes are %u and %u; 72 and 82 are wanted", (unsigned)l->bytes[l->len - 2],
             (unsigned)l->bytes[l->len - 1]);
+    if (is_text(l->bytes, l->len)) say(words, ". It is text: pachallu draw makes a rule file of a drawing in text");
 }
 
 static void out_of_range(struct growing *words, const uint8_t *trailer) {

@@ -105,12 +105,13 @@ stale() {
     return 1
 }
 
-# want_rattle: is the toolchain there, where it is needed? To be asked before anything is installed.
-want_rattle() {
-    has rt || ! stale "$top/target/staticlib/libpachallu.a" "$top/crates" "$top/crates.txt" ||
-        die "the Rattle toolchain is missing: its command rt, which proves and builds the library, is not on the PATH." \
-            "Install the kit and add its bin folder to the PATH."
+no_rattle() {
+    die "the Rattle toolchain is missing: its command rt, which proves and builds the library, is not on the PATH." \
+        "Install the kit and add its bin folder to the PATH."
 }
+
+# want_rattle: is the toolchain there, where the library has to be built? To be asked before anything is installed.
+want_rattle() { has rt || ! stale "$top/target/staticlib/libpachallu.a" "$top/crates" "$top/crates.txt" || no_rattle; }
 
 # crates_seen: names each crate of which rt has told something, as it comes
 crates_seen() {
@@ -130,7 +131,7 @@ crates_seen() {
 
 # rattle WORD..: runs rt in the project
 rattle() {
-    want_rattle
+    has rt || no_rattle
     mkdir -p "$built"
     say "building and proving, about two minutes the first time (rt $*):"
     {
