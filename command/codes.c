@@ -110,4 +110,3 @@ enum came next_code(struct codes *in, uint8_t *code) {
     in->count++;
     return A_CODE;
 }
-

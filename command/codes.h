@@ -18,10 +18,10 @@ struct codes {
     int fd;
     uint8_t block[BOOK_BLOCK];
     size_t at, len;
-    enum came end;            /* why there is no more; A_CODE: there may be */
-    size_t count;             /* codes so far */
-    size_t line, code_line;   /* the line of the last byte, and of the last code */
-    bool line_ends;           /* the last byte was the end of its line */
+    enum came end;           /* why there is no more; A_CODE: there may be */
+    size_t count;            /* codes so far */
+    size_t line, code_line;  /* the line of the last byte, and of the last code */
+    bool line_ends;          /* the last byte was the end of its line */
     uint8_t text[LINE_KEPT]; /* the front of the line */
     size_t text_len;
     bool keep;             /* to be set right after a code: `text` stays the text of its line */

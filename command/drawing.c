@@ -39,7 +39,7 @@ static void take_class(struct reader *in, const struct token *token) {
     }
     d->class_line = token->line;
     token++;
-    for (size_t class = SAFETY; class < CLASSES; class++)
+    for (size_t class = SAFETY; class < CLASSES; class ++)
         if (says(token, class_words[class])) d->rule.class = class;
     if (d->rule.class > 0)
         want_end(in, token + 1);
@@ -51,7 +51,8 @@ static void take_class(struct reader *in, const struct token *token) {
 static void declare_code(struct reader *in, size_t number, const struct token *name, size_t line) {
     struct rule *rule = &in->drawing->rule;
     if (number >= PACHALLU_EVENTS_MAX) {
-        if (!in->too_many_codes) complain(in->complaints, line, "there is no room for code %zu: codes are numbered 0 to 31", number);
+        if (!in->too_many_codes)
+            complain(in->complaints, line, "there is no room for code %zu: codes are numbered 0 to 31", number);
         in->too_many_codes = true;
         return;
     }
@@ -90,7 +91,8 @@ static void take_codes(struct reader *in, const struct token *token) {
         }
     }
     if (token->kind != END && token->kind != SPOILED)
-        complain(in->complaints, line, "NAME or NUMBER=NAME with spaces between them are wanted after codes; %s does not fit", seen(token));
+        complain(in->complaints, line, "NAME or NUMBER=NAME with spaces between them are wanted after codes; %s does not fit",
+                 seen(token));
 }
 
 /* A row: its place among the rows is the state's number. */
@@ -104,12 +106,14 @@ static void declare_state(struct reader *in, const struct token *token) {
         return;
     }
     if (state == PACHALLU_STATES_MAX) {
-        if (!in->too_many_states) complain(in->complaints, token->line, "there is no room for %s: a rule has at most 64 states", seen(token));
+        if (!in->too_many_states)
+            complain(in->complaints, token->line, "there is no room for %s: a rule has at most 64 states", seen(token));
         in->too_many_states = true;
         return;
     }
     if (number >= 0 && (size_t)number != state)
-        complain(in->complaints, token->line, "a state that has no name is written by its number, and this row is that of state %zu, not %d", state, number);
+        complain(in->complaints, token->line,
+                 "a state that has no name is written by its number, and this row is that of state %zu, not %d", state, number);
     else if (number < 0 && fault)
         complain(in->complaints, token->line, "%s %s", seen(token), fault);
     else if (number < 0)
@@ -143,11 +147,13 @@ static void take_note_text(struct reader *in, const struct token *token) {
         taken = 1;
         int byte = text[at] == '\\' ? escaped(text + at, token->len - 1 - at, &taken) : text[at];
         if (byte < 0) {
-            complain(in->complaints, token->line, "%s is not known in a note: \\\", \\\\, \\n and \\x with two digits are", quoted(text + at, 2));
+            complain(in->complaints, token->line, "%s is not known in a note: \\\", \\\\, \\n and \\x with two digits are",
+                     quoted(text + at, 2));
             return;
         }
         if (taken == 1 && (taken = visible_bytes(text + at, token->len - at)) == 0) {
-            complain(in->complaints, token->line, "byte 0x%02x has no place in a note; write it \\x%02x", (unsigned)text[at], (unsigned)text[at]);
+            complain(in->complaints, token->line, "byte 0x%02x has no place in a note; write it \\x%02x", (unsigned)text[at],
+                     (unsigned)text[at]);
             return;
         }
         bool escape = text[at] == '\\';
@@ -160,11 +166,13 @@ static void take_note(struct reader *in, const struct token *token) {
     struct rule *rule = &in->drawing->rule;
     bool fits = rule->note_len <= NOTE_MOST;
     if (token[1].kind != STRING) {
-        if (token[1].kind != SPOILED) complain(in->complaints, token->line, "note wants a text in quotation marks, not %s", seen(token + 1));
+        if (token[1].kind != SPOILED)
+            complain(in->complaints, token->line, "note wants a text in quotation marks, not %s", seen(token + 1));
         return;
     }
     take_note_text(in, token + 1);
-    if (fits && rule->note_len > NOTE_MOST) complain(in->complaints, token->line, "the note is over 1024 bytes here, the most for a note");
+    if (fits && rule->note_len > NOTE_MOST)
+        complain(in->complaints, token->line, "the note is over 1024 bytes here, the most for a note");
     want_end(in, token + 2);
 }
 
@@ -191,7 +199,8 @@ static void take_accept(struct reader *in, const struct token *token) {
 static void take_declaration(struct reader *in, const struct token *token) {
     if (token->kind == SPOILED) return; /* told already */
     if (token->kind != WORD)
-        complain(in->complaints, token->line, "a line begins with a state or with class, codes, start, accept or note, not with %s", seen(token));
+        complain(in->complaints, token->line, "a line begins with a state or with class, codes, start, accept or note, not with %s",
+                 seen(token));
     else if (says(token, "class"))
         take_class(in, token);
     else if (says(token, "codes"))
@@ -206,7 +215,8 @@ static void take_declaration(struct reader *in, const struct token *token) {
         declare_state(in, token);
     else
         complain(in->complaints, token->line,
-                 "%s begins no line of a drawing: those are STATE CODE -> STATE, .. and class, codes, start, accept and note", seen(token));
+                 "%s begins no line of a drawing: those are STATE CODE -> STATE, .. and class, codes, start, accept and note",
+                 seen(token));
 }
 
 /* ---- what uses names */
@@ -222,11 +232,14 @@ static int state_named(struct reader *in, const struct token *token) {
     }
     if (number < 0) {
         int found = find_name(d->rule.names.state, in->state_count, token->text, token->len);
-        if (found < 0 && !in->too_many_states) complain(in->complaints, token->line, "%s is no state: no row begins with it", seen(token));
+        if (found < 0 && !in->too_many_states)
+            complain(in->complaints, token->line, "%s is no state: no row begins with it", seen(token));
         return found;
     }
     if ((size_t)number >= in->state_count) {
-        if (!in->too_many_states) complain(in->complaints, token->line, "there is no state %d: there are %zu rows, numbered from 0", number, in->state_count);
+        if (!in->too_many_states)
+            complain(in->complaints, token->line, "there is no state %d: there are %zu rows, numbered from 0", number,
+                     in->state_count);
         return -1;
     }
     if (d->rule.names.state[number].len > 0) {
@@ -244,13 +257,15 @@ static int code_named(struct reader *in, const struct token *token, const struct
         int found = find_name(d->rule.names.code, d->rule.codes, token->text, token->len);
         if (found >= 0 || in->too_many_codes) return found;
         if (before->line != token->line)
-            complain(in->complaints, token->line, "%s is none of the codes (the comma at the end of line %zu joins this line to it)", seen(token), before->line);
+            complain(in->complaints, token->line,
+                     "%s is none of the codes (the comma at the end of line %zu joins this line to it)", seen(token), before->line);
         else
             complain(in->complaints, token->line, "%s is none of the codes", seen(token));
         return -1;
     }
     if ((size_t)number >= d->rule.codes) {
-        if (!in->too_many_codes) complain(in->complaints, token->line, "there is no code %d: the highest is %d", number, (int)d->rule.codes - 1);
+        if (!in->too_many_codes)
+            complain(in->complaints, token->line, "there is no code %d: the highest is %d", number, (int)d->rule.codes - 1);
         return -1;
     }
     if (d->rule.names.code[number].len > 0) {
@@ -274,7 +289,8 @@ static void resolve_pair(struct reader *in, size_t pair) {
     bool given[] = {false, false};
     const struct token *token = in->pair[pair] + 1;
     if (!says(token, "R") && !says(token, "P")) {
-        if (token->kind != SPOILED) complain(in->complaints, token->line, "accept wants R and states, P and states, or both, not %s", seen(token));
+        if (token->kind != SPOILED)
+            complain(in->complaints, token->line, "accept wants R and states, P and states, or both, not %s", seen(token));
         return;
     }
     while (token->kind == WORD) {
@@ -316,8 +332,8 @@ static const struct token *take_move_codes(struct reader *in, struct row *row, c
         if (code < 0) {
             row->broken = true;
         } else if (row->to[code] != NOT_DRAWN || chosen[code]) {
-            complain(in->complaints, token->line, "the move of %s by %s is drawn twice", told_state(&in->drawing->rule.names, row->state),
-                     told_code(&in->drawing->rule.names, (size_t)code));
+            complain(in->complaints, token->line, "the move of %s by %s is drawn twice",
+                     told_state(&in->drawing->rule.names, row->state), told_code(&in->drawing->rule.names, (size_t)code));
             row->broken = true;
         } else {
             chosen[code] = true;
@@ -333,7 +349,8 @@ static const struct token *take_move(struct reader *in, struct row *row, const s
     token = take_move_codes(in, row, token, chosen);
     if (token->kind != ARROW || token == first) {
         if (token->kind != SPOILED)
-            complain(in->complaints, token->line, "%s is wanted here, not %s; a row is STATE CODE -> STATE, CODE -> STATE, else -> STATE",
+            complain(in->complaints, token->line,
+                     "%s is wanted here, not %s; a row is STATE CODE -> STATE, CODE -> STATE, else -> STATE",
                      token == first ? "a code or else" : "->", seen(token));
         return NULL;
     }
@@ -386,14 +403,18 @@ static void want_whole(struct reader *in) {
     struct drawing *d = in->drawing;
     if (!d->class_line) complain(in->complaints, 0, "there is no class: a line such as \"class response\" is wanted");
     if (!in->codes_line) complain(in->complaints, 0, "there are no codes: a line such as \"codes backsight foresight\" is wanted");
-    if (in->state_count == 0) complain(in->complaints, 0, "there are no states: a line for each is wanted, such as \"half  foresight -> between, else -> lost\"");
+    if (in->state_count == 0)
+        complain(in->complaints, 0,
+                 "there are no states: a line for each is wanted, such as \"half  foresight -> between, else -> lost\"");
     if (!d->start_line) complain(in->complaints, 0, "there is no start: a line such as \"start between\" is wanted");
     if (in->pair_count == 0) complain(in->complaints, 0, "nothing is accepted: a line such as \"accept R between\" is wanted");
     if (in->pair_count > 1 && d->rule.class != OBLIGATION && d->rule.class > 0)
-        complain(in->complaints, d->pair_line[1], "a rule of class %s has one pair, and this is a second accept", class_words[d->rule.class]);
+        complain(in->complaints, d->pair_line[1], "a rule of class %s has one pair, and this is a second accept",
+                 class_words[d->rule.class]);
 }
 
-static void for_each_statement(struct reader *in, const struct tokens *tokens, void (*take)(struct reader *, const struct token *)) {
+static void for_each_statement(struct reader *in, const struct tokens *tokens,
+                               void (*take)(struct reader *, const struct token *)) {
     for (size_t i = 0; i < tokens->count; i++) {
         const struct token *first = &tokens->list[i];
         while (tokens->list[i].kind != END) i++;

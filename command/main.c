@@ -82,8 +82,8 @@ static void set_option(struct arguments *arguments, const struct option *option,
 }
 
 static enum status bad_use(const struct subcommand *sub, const char *what, const char *word) {
-    tell(NULL, 0, "%s: %s%s%s. It is: pachallu %s %s", sub->name, what, word ? " " : "", word ? quoted(word, strlen(word)) : "", sub->name,
-         sub->usage);
+    tell(NULL, 0, "%s: %s%s%s. It is: pachallu %s %s", sub->name, what, word ? " " : "", word ? quoted(word, strlen(word)) : "",
+         sub->name, sub->usage);
     return FAILED;
 }
 

@@ -11,15 +11,14 @@ enum { WIDEST_LABEL = 28 };
 static const char *const operation_words[] = {"halt", "store", "dump"};
 static const char *const arrow_styles[] = {"dotted", "dashed", "solid"};
 
-static const char legend[] =
-    "An arrow says codes and operation: solid dump, dashed store, dotted halt.\\n"
-    "Two rings: accepted there. A grey box: stopping, nothing more can be accepted.";
+static const char legend[] = "An arrow says codes and operation: solid dump, dashed store, dotted halt.\\n"
+                             "Two rings: accepted there. A grey box: stopping, nothing more can be accepted.";
 
 static void put_state(struct sink *out, const struct loaded *loaded, size_t state, bool stopping) {
     const struct rule *rule = &loaded->rule;
     const char *shape = stopping ? "shape=box, style=filled, fillcolor=lightgrey" : "shape=ellipse";
-    put_line(out, "    s%zu [label=\"%s\", tooltip=\"state %zu\", %s%s];\n", state, word_for(rule->names.state, state), state, shape,
-             is_accepting(rule, state) ? ", peripheries=2" : "");
+    put_line(out, "    s%zu [label=\"%s\", tooltip=\"state %zu\", %s%s];\n", state, word_for(rule->names.state, state), state,
+             shape, is_accepting(rule, state) ? ", peripheries=2" : "");
 }
 
 /* The codes that move from one state to another, broken over lines. No name has a mark that Graphviz would read. */

@@ -43,8 +43,18 @@ size_t rule_to_file(const struct rule *rule, bool with_names, uint8_t bytes[PACH
         put_number(bytes + at, rule->r[i], 8);
         put_number(bytes + at + 8, rule->p[i], 8);
     }
-    uint8_t trailer[TRAILER] = {(uint8_t)rule->class, (uint8_t)rule->states, (uint8_t)rule->codes, (uint8_t)rule->pairs,
-                                (uint8_t)rule->start, 0, 0, 0, 0, 0, 72, 82};
+    uint8_t trailer[TRAILER] = {(uint8_t)rule->class,
+                                (uint8_t)rule->states,
+                                (uint8_t)rule->codes,
+                                (uint8_t)rule->pairs,
+                                (uint8_t)rule->start,
+                                0,
+                                0,
+                                0,
+                                0,
+                                0,
+                                72,
+                                82};
     put_number(trailer + 6, TRAILER + pairs + cells, 2);
     put_number(trailer + 8, TRAILER + pairs, 2);
     memcpy(bytes + at, trailer, TRAILER);

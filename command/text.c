@@ -84,7 +84,8 @@ static void move_item(const struct rule *rule, size_t state, size_t to, bool res
     size_t used = 0;
     if (rest) used += (size_t)snprintf(item, size, "else ");
     for (size_t code = 0; code < rule->codes && !rest; code++)
-        if (move_of(rule, state, code) == to) used += (size_t)snprintf(item + used, size - used, "%s ", word_for(rule->names.code, code));
+        if (move_of(rule, state, code) == to)
+            used += (size_t)snprintf(item + used, size - used, "%s ", word_for(rule->names.code, code));
     snprintf(item + used, size - used, "-> %s", word_for(rule->names.state, to));
 }
 

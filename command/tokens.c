@@ -37,7 +37,8 @@ struct text {
 
 static void add_token(struct text *in, enum kind kind, size_t len) {
     struct tokens *tokens = in->tokens;
-    if (tokens->count == tokens->size) tokens->list = room_for(tokens->list, (tokens->size = 2 * tokens->size + 64) * sizeof *tokens->list);
+    if (tokens->count == tokens->size)
+        tokens->list = room_for(tokens->list, (tokens->size = 2 * tokens->size + 64) * sizeof *tokens->list);
     tokens->list[tokens->count++] = (struct token){kind, in->line, in->text + in->at, len};
     in->at += len;
 }
@@ -74,16 +75,20 @@ static void add_spoiled(struct text *in) {
     if (text[0] == '<' || text[0] == '>')
         complain(in->complaints, in->line, "\"%c\" has no place here; an arrow is written ->", text[0]);
     else if (seen_bytes > 0)
-        complain(in->complaints, in->line, "%s has no place in a drawing outside of a text in quotation marks", quoted(text, seen_bytes));
+        complain(in->complaints, in->line, "%s has no place in a drawing outside of a text in quotation marks",
+                 quoted(text, seen_bytes));
     else if (text[0] < 0x80)
         complain(in->complaints, in->line, "the control byte 0x%02x has no place in a drawing", (unsigned)text[0]);
     else
-        complain(in->complaints, in->line, "byte 0x%02x begins no character of UTF-8 that can be seen: type this place anew", (unsigned)text[0]);
+        complain(in->complaints, in->line, "byte 0x%02x begins no character of UTF-8 that can be seen: type this place anew",
+                 (unsigned)text[0]);
     add_token(in, SPOILED, rest_of_line(text, in->len - in->at));
 }
 
 /* An END stands, so to speak, before the first token. */
-static enum kind last_kind(const struct text *in) { return in->tokens->count > 0 ? in->tokens->list[in->tokens->count - 1].kind : END; }
+static enum kind last_kind(const struct text *in) {
+    return in->tokens->count > 0 ? in->tokens->list[in->tokens->count - 1].kind : END;
+}
 
 static void end_line(struct text *in) {
     /* after a comma the statement goes on in the next line */

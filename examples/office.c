@@ -28,7 +28,8 @@ int main(int count, char **words) {
 
     /* 3. one code at a time */
     for (unsigned code; scanf("%u", &code) == 1 && code < 256;) {
-        pachallu_answer answer = pachallu_event(sheet, made.written, state, held, (uint8_t)code, memory, sizeof memory, output, sizeof output);
+        pachallu_answer answer =
+            pachallu_event(sheet, made.written, state, held, (uint8_t)code, memory, sizeof memory, output, sizeof output);
         if (answer.refusal) { /* not taken, and nothing has changed */
             printf("%u not taken: %s\n", code, pachallu_refusal_text(answer.refusal));
             continue;

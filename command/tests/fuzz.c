@@ -88,7 +88,8 @@ static void try_drawing(const uint8_t *bytes, size_t len) {
         drawn++;
         loaded.len = rule_to_file(&drawing.rule, true, loaded.bytes, &note);
         if (loaded.len > 0) judge_and_tell(&loaded, bytes, len);
-        if (loaded.len > 0 && loaded.made.refusal > 0 && loaded.made.refusal < 7) fail("a drawing makes a spoiled file", bytes, len);
+        if (loaded.len > 0 && loaded.made.refusal > 0 && loaded.made.refusal < 7)
+            fail("a drawing makes a spoiled file", bytes, len);
     }
     complaints_free(&drawing.complaints);
 }
@@ -104,8 +105,9 @@ static void try_rule(const uint8_t *bytes, size_t len) {
 /* ---- changes */
 
 static const char *const words[] = {
-    "class ", "codes ", "start ", "accept ", "note \"", "else ", "-> ", ", ", "= ", "R ", "P ", "0 ", "1 ", "31", "64 ", "safety\n", "\n", "\r\n",
-    "\"", "\\", "\\x0", "\\n", "#", "\xef\xbb\xbf", "\xc3\xb1", "\xc2\xa0", "pachallu 1\n", "states ", "99999999999", " a b c d e f ",
+    "class ", "codes ", "start ", "accept ",      "note \"",  "else ",    "-> ",          ", ",      "= ",          "R ",
+    "P ",     "0 ",     "1 ",     "31",           "64 ",      "safety\n", "\n",           "\r\n",    "\"",          "\\",
+    "\\x0",   "\\n",    "#",      "\xef\xbb\xbf", "\xc3\xb1", "\xc2\xa0", "pachallu 1\n", "states ", "99999999999", " a b c d e f ",
 };
 
 static size_t put_in(uint8_t *bytes, size_t len, size_t at, const void *part, size_t part_len) {
@@ -130,19 +132,14 @@ static size_t change(uint8_t *bytes, size_t len) {
         const char *word = words[dice(sizeof words / sizeof words[0])];
         return put_in(bytes, len, at, word, strlen(word));
     }
-    case 3: /* less */
-        memmove(bytes + at, bytes + at + part, len - at - part);
-        return len - part;
-    case 4: /* a part twice, elsewhere */
-        memcpy(kept, bytes + at, part);
-        return put_in(bytes, len, dice(len + 1), kept, part);
+    case 3: /* less */ memmove(bytes + at, bytes + at + part, len - at - part); return len - part;
+    case 4: /* a part twice, elsewhere */ memcpy(kept, bytes + at, part); return put_in(bytes, len, dice(len + 1), kept, part);
     case 5: /* a part of another seed */
         if (other->len == 0) return len;
         at = dice(other->len);
         part = dice(other->len - at < 60 ? other->len - at + 1 : 60);
         return put_in(bytes, len, dice(len + 1), other->bytes + at, part);
-    default: /* the end cut off */
-        return dice(8) ? len : at;
+    default: /* the end cut off */ return dice(8) ? len : at;
     }
 }
 

@@ -66,7 +66,8 @@ static struct rule random_rule(size_t number) {
 
 /* A line of names that are different, some left out. */
 static size_t list_names(char *line, const char *word, size_t count) {
-    static const char *const parts[] = {"a", "zz", "+", "-x", "mark", "niv\xc3\xa9", "\xe6\xb0\xb4", "_", "3b", "R1", "/", "'", "-"};
+    static const char *const parts[] = {"a",  "zz", "+", "-x", "mark", "niv\xc3\xa9", "\xe6\xb0\xb4", "_",
+                                        "3b", "R1", "/", "'",  "-"};
     size_t used = (size_t)sprintf(line, "%s", word), next = 0;
     for (size_t i = 0; i < count; i++) {
         if (dice(9) == 0) continue;
