@@ -1,22 +1,21 @@
 -- What check 3 comes to, return by return; what `checked` comes to of a shape that passed it; and the numbers that it gives.
 -- Assumes nothing.
-use mathlib.Core.Path.{_≡_, sym, _∙_}
+use mathlib.Core.Path.{_≡_, refl, sym, _∙_}
 use mathlib.Core.Bool.{true, false, not}
 use mathlib.Core.List.{List}
 use Prim.Native.Nat.{ℕ, _≤_}
-use native.Mathlib.Omega.{arith}
 use borrow.Author.Tests.{le-leb, not-false}
 use Rattle.rule.specs.Drawing.{body}
 use Rattle.rule.specs.Refusals.{refuseIf, firstOf, conditions}
 use Rattle.rule.proofs.BoolLaws.{and-says, le-says}
 use Rattle.rule.proofs.RefusalLaws.{refuse-sound}
-use Rattle.rule.proofs.NumberLaws.{Gives, refuse-gives, first-gives, and, all-wider, conditions-give}
+use Rattle.rule.proofs.NumberLaws.{Gives, test-gives, first-gives, and, conditions-give}
 use Rattle.rule.specs.declared.Pair.{Pair}
 use Rattle.rule.specs.declared.Shape.{Shape}
 use Rattle.rule.specs.declared.Refusal.the-variants.{Range}
 use Rattle.rule.specs.declared.Verdict.{Verdict}
 use Rattle.rule.specs.declared.Verdict.the-variants.{Sound, Refused}
-use Rattle.checks.specs.Checked.{holds, checkedOf}
+use Rattle.checks.specs.Checked.{holds, checkedOf, checkedOrder}
 
 module _ (s : Shape) where
   pub held : holds s ≡ true → Sound ≡ refuseIf (not (holds s)) Range
@@ -48,8 +47,6 @@ module _ (s : Shape) (table : List ℕ) (ps : List Pair) where
   in-range few some fits = rw (le-leb (s .states) 64 few, le-leb 1 (s .pairs) some, le-leb (s .pairs) 8 fits)
 
   -- the numbers that it gives
-  pub checked-gives : Gives 3 10 (checkedOf s table ps)
+  pub checked-gives : Gives checkedOrder (checkedOf s table ps)
   unfolding checkedOf
-  checked-gives =
-      first-gives
-      (and (refuse-gives (not (holds s)) Range (omega arith)) (all-wider (omega arith) (omega arith) (conditions-give (body s table ps))))
+  checked-gives = first-gives (and (test-gives (not (holds s)) Range refl) (conditions-give (body s table ps)))

@@ -5,7 +5,7 @@ use mathlib.Core.Bool.{Bool, not, _&&_}
 use mathlib.Core.List.{List, _∷_}
 use lib.Dec.{leb}
 use Rattle.rule.specs.Drawing.{body}
-use Rattle.rule.specs.Refusals.{refuseIf, firstOf, conditions}
+use Rattle.rule.specs.Refusals.{refuseIf, firstOf, conditions, conditionsOrder}
 use Rattle.rule.specs.declared.Pair.{Pair}
 use Rattle.rule.specs.declared.Shape.{Shape}
 use Rattle.rule.specs.declared.Refusal.the-variants.{Range}
@@ -15,6 +15,9 @@ use Rattle.rule.specs.declared.Verdict.{Verdict}
 abbrev pub holds : Shape → Bool
 holds s = leb (s .states) 64 && (leb 1 (s .pairs) && leb (s .pairs) 8)
 
--- 3 of a shape that cannot be held, and then the conditions 5 to 10 in order
+-- 3 of a shape that cannot be held, and then the conditions 5 to 10 in order; their numbers
 unfoldable pub checkedOf : Shape → List ℕ → List Pair → Verdict
 checkedOf s table ps = firstOf (refuseIf (not (holds s)) Range ∷ conditions (body s table ps))
+
+abbrev pub checkedOrder : List ℕ
+checkedOrder = 3 ∷ conditionsOrder

@@ -68,7 +68,7 @@ fn pair_at(shape: Shape, pairs: [Pair; 8], i: u8) -> Pair
 fn names_past(states: u8, set: u64) -> bool
     ensures { λ r. ⌜ r ≡ namesPast states set ⌝ }
 {
-    if states < 64 {
+    if states < Rule::STATES {
         set >> states != 0
     } else {
         false

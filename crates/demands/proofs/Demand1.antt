@@ -1,112 +1,45 @@
--- DEMAND 1. Every rule file, sheet, code and buffer length gets a definite answer in finite time.
--- A bad one is refused by number, the run stays where it was, and no lent byte changes.
---
--- That each call returns, whatever it is given, is proved of each function with its contract: none has a `requires`.
--- Here: the answer is determined, and what a refusal leaves. A refused event's answer has no run state: the caller keeps its own.
--- Assumes nothing.
-use Prim.Native.Nat.{ℕ}
-use mathlib.Core.Path.{_≡_, sym}
-use mathlib.Core.Logic.{_⊎_}
-use mathlib.Core.List.{List, []}
-use Rattle.rule.specs.Drawing.{drawn, stateNo, zeroRule}
-use Rattle.rule.specs.Refusals.{Numbered, firstOf}
-use Rattle.rule.specs.declared.StateNo.{StateNo}
-use Rattle.rule.specs.declared.EventNo.{EventNo}
-use Rattle.rule.specs.declared.Pair.{Pair}
-use Rattle.rule.specs.declared.Rule.{Rule}
-use Rattle.rule.specs.declared.Shape.{Shape}
-use Rattle.rule.specs.declared.Refusal.{Refusal}
-use Rattle.rule.specs.declared.Refusal.the-variants.{Sheet as NoSheet, Memory, Room}
-use Rattle.rule.specs.declared.Verdict.the-variants.{Refused as Unsound}
-use Rattle.checks.specs.Checked.{checkedOf}
+-- Demand 1 holds (specs/Demand1). Assumes nothing.
+use Rattle.rule.specs.Drawing.{drawn}
+use Rattle.rule.specs.declared.Verdict.the-variants.{Sound}
 use Rattle.checks.proofs.HeldLaws.{checked-gives}
-use Rattle.trailer.specs.Conditions.{shapeConditions, headConditions}
-use Rattle.trailer.specs.declared.Trailer.{Trailer}
 use Rattle.trailer.proofs.NumberLaws.{shape-gives, head-gives}
 use Rattle.rulefile.specs.Layout.{drawingIn, fileOf}
-use Rattle.rulefile.specs.Reading.{verdictOn, partsBy, partsOf, readingOf}
-use Rattle.rulefile.specs.Writing.{verdictOf, WritePromise, OneWritten}
-use Rattle.rulefile.specs.declared.Written.the-variants.{Refused as Unwritten}
-use Rattle.rulefile.proofs.AnswerLaws.{file-gives, rule-gives, parts-zero, read-zero, put-refused, put-kept, put-one}
-use Rattle.making.specs.Making.{sheetOf, MakePromise}
-use Rattle.sheet.specs.Opening.{openedOf}
-use Rattle.monitor.specs.Fresh.{startOf}
-use Rattle.effects.specs.Effects.{freshRun, StorePromise, DumpPromise, OneAnswer}
-use Rattle.monitor.specs.Event.{turnOf, EventPromise}
-use Rattle.effects.specs.declared.Run.{Run}
-use Rattle.effects.specs.declared.Answer.the-variants.{Refused}
-use Rattle.monitor.proofs.AnswerLaws.{turn-refuses, start-refused}
-use Rattle.effects.proofs.KeptLaws.{turn-one, refused-kept, store-kept, dump-kept}
-use Rattle.printed.specs.Printing.{PrintPromise}
-use Rattle.printed.proofs.RefusedLaws.{print-kept}
-use Rattle.pachallu.specs.Told.{MakeForC, EventForC, MakeKept, EventKept}
-use Rattle.pachallu.specs.declared.Made.{Made}
-use Rattle.pachallu.specs.declared.Answered.{Answered}
-use Rattle.pachallu.proofs.RefusedLaws.{make-kept, event-kept}
-
-pub record Demand1 : Type 0 where
-  -- looking at a rule file: 1 to 10, and 0 in every place; its checks alone: 2 and 3 of a shape, 2 to 4 of a trailer, 3 to 10 of a table and pairs
-  pub look : (f : List ℕ) (x : Refusal) → partsOf f .verdict ≡ Unsound x → Numbered 1 10 x × (partsOf f ≡ partsBy (Unsound x) [])
-  pub shape : (s : Shape) (spare : ℕ) (x : Refusal) → firstOf (shapeConditions s spare) ≡ Unsound x → Numbered 2 3 x
-  pub head : (t : Trailer) (size : ℕ) (x : Refusal)
-      → firstOf (headConditions t size) ≡ Unsound x → Numbered 2 4 x
-  pub check : (s : Shape) (table : List ℕ) (pairs : List Pair) (x : Refusal) → checkedOf s table pairs ≡ Unsound x → Numbered 3 10 x
-  -- reading: 1 to 10, and a rule with 0 in every place
-  pub read : (f : List ℕ) (x : Refusal) → readingOf f .verdict ≡ Unsound x → Numbered 1 10 x × (readingOf f .rule ≡ zeroRule)
-  -- writing: 2 to 10 or 16, and the output as it was
-  pub write : (r : Rule) (out : List ℕ) → OneWritten (WritePromise r out)
-  pub write-refused : (r : Rule) (out : List ℕ) (x : Refusal) (out′ : List ℕ) → WritePromise r out (Unwritten x) out′
-      → (Numbered 2 10 x ⊎ (x ≡ Room)) × (out′ ≡ out)
-  -- making a sheet: 1 to 10 or 16, and the output as it was
-  pub make : (f out : List ℕ) → OneWritten (MakePromise f out)
-  pub make-refused : (f out : List ℕ) (x : Refusal) (out′ : List ℕ) → MakePromise f out (Unwritten x) out′
-      → (Numbered 1 10 x ⊎ (x ≡ Room)) × (out′ ≡ out)
-  -- a fresh start: 11, and state 0 with nothing held
-  pub fresh : (sheet : List ℕ) (x : Refusal) → startOf sheet .verdict ≡ Unsound x → (x ≡ NoSheet) × (startOf sheet .run ≡ freshRun (stateNo 0))
-  -- one event: 11 to 16, and the memory and the output as they were
-  pub event : (sheet : List ℕ) (run : Run) (e : EventNo) (memory output : List ℕ) → OneAnswer (EventPromise sheet run e memory output)
-  pub event-refused : (sheet : List ℕ) (run : Run) (e : EventNo) (memory output : List ℕ) (x : Refusal) (memory′ output′ : List ℕ)
-      → EventPromise sheet run e memory output (Refused x) memory′ output′
-      → Numbered 11 16 x × (memory′ ≡ memory) × (output′ ≡ output)
-  -- its operations alone: a store 15, a dump 16, and the memory or the output as it was
-  pub store-refused : (next : StateNo) (run : Run) (e : EventNo) (memory : List ℕ) (x : Refusal) (memory′ : List ℕ)
-      → StorePromise next run e memory (Refused x) memory′ → (x ≡ Memory) × (memory′ ≡ memory)
-  pub dump-refused : (next : StateNo) (held : List ℕ) (e : EventNo) (output : List ℕ) (x : Refusal) (output′ : List ℕ)
-      → DumpPromise next held e output (Refused x) output′ → (x ≡ Room) × (output′ ≡ output)
-  -- printing: 16, and the output as it was
-  pub print-refused : (f out : List ℕ) (x : Refusal) (out′ : List ℕ) → PrintPromise f out (Unwritten x) out′ → (x ≡ Room) × (out′ ≡ out)
-  -- and from C: a refusal is not 0, is a number of the table, and leaves every buffer and the run state that was given
-  pub c-make : (rule out : List ℕ) (r : Made) (out′ : List ℕ) → MakeForC rule out r out′ → (r .refusal ≡ 0 → ⊥) → MakeKept out r out′
-  pub c-event : (sheet : List ℕ) (state held event : ℕ) (memory output : List ℕ) (r : Answered) (memory′ output′ : List ℕ)
-      → EventForC sheet state held event memory output r memory′ output′ → (r .refusal ≡ 0 → ⊥) → EventKept state held memory output r memory′ output′
+use Rattle.rulefile.specs.Reading.{verdictOn}
+use Rattle.rulefile.specs.Writing.{verdictOf}
+use Rattle.rulefile.proofs.AnswerLaws.{put-one}
+use Rattle.rulefile.proofs.GivenLaws.{look-ends, read-ends, write-ends}
+use Rattle.making.specs.Making.{sheetOf}
+use Rattle.making.proofs.GivenLaws.{make-ends}
+use Rattle.effects.proofs.KeptLaws.{turn-one, store-ends, dump-ends}
+use Rattle.monitor.specs.Event.{turnOf}
+use Rattle.monitor.proofs.FreshLaws.{open-ends, fresh-ends}
+use Rattle.monitor.proofs.GivenLaws.{event-ends}
+use Rattle.printed.specs.Printing.{textOf}
+use Rattle.printed.proofs.GivenLaws.{print-ends}
+use Rattle.pachallu.proofs.EndsLaws.{c-make-ends, c-fresh-ends, c-event-ends}
+use Rattle.demands.specs.Demand1.{Demand1}
 
 pub demand-1 : Demand1
-unfolding partsOf readingOf
 demand-1 =
     record {
-      look = λ f x p. let z = parts-zero (verdictOn f) f x p in (file-gives f x (z .0), z .1);
+      look = look-ends;
+      read = read-ends;
+      one-write = λ r out. put-one (verdictOf r) (fileOf (drawn r)) out;
+      write = λ r h out w out′ p. write-ends r (h .pairs-long) p;
+      one-make = λ f out. put-one (verdictOn f) (sheetOf (drawingIn f)) out;
+      make = λ f out w out′ p. make-ends p;
+      opening = open-ends;
+      fresh = fresh-ends;
+      one-event = λ sheet run e memory output. turn-one (turnOf sheet run e memory output) run e memory output;
+      event = λ sheet run e memory output r memory′ output′ p. event-ends sheet run e memory output p;
+      store = λ next run e memory r memory′ p. store-ends p;
+      dump = λ next held e output r output′ p. dump-ends p;
+      one-print = λ f out. put-one Sound (textOf f) out;
+      print = λ f out w out′ p. print-ends f p;
+      c-make = λ rule out r out′ p. c-make-ends p;
+      c-fresh = λ sheet r p. c-fresh-ends p;
+      c-event = λ sheet state held event memory output r memory′ output′ p. c-event-ends p;
       shape = shape-gives;
       head = head-gives;
       check = checked-gives;
-      read = λ f x p. let z = read-zero (verdictOn f) _ x p in (file-gives f x (z .0), z .1);
-      write = λ r out. put-one (verdictOf r) (fileOf (drawn r)) out;
-      write-refused = λ r out x out′ p. (
-        put-refused 2 10 (verdictOf r) (rule-gives r) _ _ x (sym (p .answer)),
-        put-kept (verdictOf r) (fileOf (drawn r)) out x out′ p,
-      );
-      make = λ f out. put-one (verdictOn f) (sheetOf (drawingIn f)) out;
-      make-refused = λ f out x out′ p. (
-        put-refused 1 10 (verdictOn f) (file-gives f) _ _ x (sym (p .answer)),
-        put-kept (verdictOn f) (sheetOf (drawingIn f)) out x out′ p,
-      );
-      fresh = λ sheet x p. start-refused (openedOf sheet) x p;
-      event = λ sheet run e memory output. turn-one (turnOf sheet run e memory output) run e memory output;
-      event-refused = λ sheet run e memory output x memory′ output′ p.
-          let k = refused-kept (turnOf sheet run e memory output) run e memory output x memory′ output′ p in
-          (turn-refuses (openedOf sheet) sheet run e memory output x (k .0), k .1, k .2);
-      store-refused = store-kept;
-      dump-refused = dump-kept;
-      print-refused = print-kept;
-      c-make = λ rule out r out′ p n. make-kept p n;
-      c-event = λ sheet state held event memory output r memory′ output′ p n. event-kept p n;
     }

@@ -1,2 +1,9 @@
+-- the three demands
+pub mod Demand1
+pub mod Demand2
+pub mod Demand3
+-- what they speak of: a sheet made by this build, and the calls of a C program
 pub mod Made
+pub mod FromC
+-- the marked runs
 pub mod Marked

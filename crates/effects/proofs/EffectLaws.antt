@@ -24,20 +24,20 @@ module _ (next : StateNo) (run : Run) (e : EventNo) (memory : List ℕ) where
   pub store-full : length memory ≤ run .held → StorePromise next run e memory (Declined Memory) memory
   store-full a =
       let t = le-leb _ _ a in
-      record { answer = rw t; memory-after = rw t; output-after = rw t }
+      record { answer = rw t; memory-after = rw t }
 
   pub stored : run .held < length memory
       → StorePromise next run e memory (Taken Store (record { state = next; held = run .held + 1 }) 0) (set memory (run .held) (e .0))
   stored a =
       let t = lt-leb _ _ a in
-      record { answer = rw t; memory-after = rw t; output-after = rw t }
+      record { answer = rw t; memory-after = rw t }
 
 -- what dump does
 module _ (next : StateNo) (held : List ℕ) (e : EventNo) (output : List ℕ) where
   pub dump-full : length output ≤ length held → DumpPromise next held e output (Declined Room) output
   dump-full a =
       let t = le-leb _ _ a in
-      record { answer = rw t; memory-after = rw t; output-after = rw t }
+      record { answer = rw t; output-after = rw t }
 
   pub dumped : {to : List ℕ} {run : Run} → length held < length output → to ≡ copied held output → run ≡ freshRun next
       → DumpPromise next held e output (Taken Dump run (length held + 1)) (set to (length held) (e .0))
@@ -46,6 +46,5 @@ module _ (next : StateNo) (held : List ℕ) (e : EventNo) (output : List ℕ) wh
       let w : to ≡ held ++ drop (length held) output = d ∙ copied-whole held output (omega arith) in
       record {
         answer = rw (t, new);
-        memory-after = rw t;
         output-after = rw (t, w, add-one, take-all (length held) held (omega arith)) (store-more held output (length held) (e .0) 0 refl b);
       }

@@ -1,23 +1,23 @@
 -- What a turn leaves: one answer and one content of the buffers, and after a refusal the buffers as they were.
 -- Assumes nothing.
-use Prim.Native.Nat.{ℕ}
+use Prim.Native.Nat.{ℕ, _≤_}
 use native.Mathlib.Omega.{arith}
-use mathlib.Core.Path.{_≡_, refl, sym, ap, _∙_}
-use mathlib.Core.Bool.{Bool, true, false, cond}
+use mathlib.Core.Path.{_≡_, refl, sym, ap}
 use mathlib.Core.List.{List}
 use lib.ListN.{length}
-use lib.Dec.{leb}
 use Rattle.rule.specs.declared.StateNo.{StateNo}
 use Rattle.rule.specs.declared.EventNo.{EventNo}
-use Rattle.rule.specs.declared.Operation.{Operation}
 use Rattle.rule.specs.declared.Operation.the-variants.{Halt, Store, Dump}
 use Rattle.rule.specs.declared.Refusal.{Refusal}
-use Rattle.rule.specs.declared.Refusal.the-variants.{Memory, Room}
-use Rattle.effects.specs.Effects.{answerIn, memoryIn, outputIn, TurnPromise, StorePromise, DumpPromise, OneAnswer}
+use Rattle.effects.specs.Effects.{answerIn, memoryIn, outputIn, TurnPromise, StorePromise, DumpPromise, OneAnswer, answerTold, StoreTable, storeOrder, DumpTable, dumpOrder}
 use Rattle.effects.specs.declared.Run.{Run}
 use Rattle.effects.specs.declared.Turn.{Turn}
 use Rattle.effects.specs.declared.Turn.the-variants.{Move, Refused as Away}
 use Rattle.effects.specs.declared.Answer.the-variants.{Refused}
+use Rattle.rule.specs.Given.{NoRow, NoRows, here, After, row, last, done, refused, Ends}
+use native.Mathlib.Decide.{decLe}
+use borrow.Author.Tests.{le-leb, lt-leb}
+use Rattle.effects.specs.declared.Answer.{Answer}
 
 -- a refused answer comes of a refused turn
 pub away-of : (t : Turn) (held : ℕ) (x : Refusal) → Refused x ≡ answerIn t held → t ≡ Away x
@@ -37,30 +37,30 @@ turn-one t run e memory output =
       only = λ r m out p. (p .answer, p .memory-after, p .output-after);
     }
 
--- where the answer is a refusal, the memory and the output are as they were
-pub refused-kept : (t : Turn) (run : Run) (e : EventNo) (memory output : List ℕ) (x : Refusal) (memory′ output′ : List ℕ)
-    → TurnPromise t run e memory output (Refused x) memory′ output′
-    → (t ≡ Away x) × (memory′ ≡ memory) × (output′ ≡ output)
-refused-kept t run e memory output x memory′ output′ p =
-    let a : t ≡ Away x = away-of t (run .held) x (p .answer) in (
-      a,
-      p .memory-after ∙ ap (λ (s : Turn). memoryIn s (run .held) (e .0) memory) a,
-      p .output-after ∙ ap (λ (s : Turn). outputIn s (run .held) (e .0) memory output) a,
-    )
+-- a table with one row
+alone : {n : ℕ} {y : Refusal} {A : Type 0} → (A → ⊥) → NoRow (After NoRows n y A)
+alone not m x (row r) = elim r [ ]
+alone not m x (last a) = not a
 
--- a store or a dump that is refused
-refused-as : (full : Bool) (y : Refusal) (o : Operation) (next : StateNo) {x : Refusal} → cond full (Away y) (Move o next) ≡ Away x → x ≡ y
-refused-as true y o next p = cc
-refused-as false y o next p = absurd (let z : _≡_ {A = ℕ} 0 1 = cc in omega arith)
+-- how a store and a dump end: a refused one leaves the memory, or the output, as it was
+pub store-ends : {next : StateNo} {run : Run} {e : EventNo} {memory : List ℕ} {r : Answer} {memory′ : List ℕ} → StorePromise next run e memory r memory′
+    → Ends (StoreTable (run .held) (length memory)) storeOrder (answerTold r) (memory′ ≡ memory)
+store-ends {run = run} {memory = memory} {r = r} {memory′ = memory′} p = by (decLe (length memory) (run .held))
+  where
+    by : Dec (length memory ≤ run .held) → Ends (StoreTable (run .held) (length memory)) storeOrder (answerTold r) (memory′ ≡ memory)
+    by (yes a) =
+        let full = le-leb (length memory) (run .held) a in
+        rw (p .answer, p .memory-after, full) (record { tells = refused (here (last a)); rest = λ n. refl })
+    by (no a) =
+        rw (p .answer, p .memory-after, lt-leb (length memory) (run .held) (omega arith)) (record { tells = done (alone a); rest = λ n. absurd (n refl) })
 
-pub store-kept : (next : StateNo) (run : Run) (e : EventNo) (memory : List ℕ) (x : Refusal) (memory′ : List ℕ)
-    → StorePromise next run e memory (Refused x) memory′ → (x ≡ Memory) × (memory′ ≡ memory)
-store-kept next run e memory x memory′ p =
-    let k = refused-kept _ run e memory _ x memory′ _ p in
-    (refused-as (leb (length memory) (run .held)) Memory Store next (k .0), k .1)
-
-pub dump-kept : (next : StateNo) (held : List ℕ) (e : EventNo) (output : List ℕ) (x : Refusal) (output′ : List ℕ)
-    → DumpPromise next held e output (Refused x) output′ → (x ≡ Room) × (output′ ≡ output)
-dump-kept next held e output x output′ p =
-    let k = refused-kept _ _ e held output x _ output′ p in
-    (refused-as (leb (length output) (length held)) Room Dump next (k .0), k .2)
+pub dump-ends : {next : StateNo} {held : List ℕ} {e : EventNo} {output : List ℕ} {r : Answer} {output′ : List ℕ} → DumpPromise next held e output r output′
+    → Ends (DumpTable (length held) (length output)) dumpOrder (answerTold r) (output′ ≡ output)
+dump-ends {held = held} {output = output} {r = r} {output′ = output′} p = by (decLe (length output) (length held))
+  where
+    by : Dec (length output ≤ length held) → Ends (DumpTable (length held) (length output)) dumpOrder (answerTold r) (output′ ≡ output)
+    by (yes a) =
+        let full = le-leb (length output) (length held) a in
+        rw (p .answer, p .output-after, full) (record { tells = refused (here (last (omega arith))); rest = λ n. refl })
+    by (no a) =
+        rw (p .answer, p .output-after, lt-leb (length output) (length held) (omega arith)) (record { tells = done (alone (λ b. a (omega arith))); rest = λ n. absurd (n refl) })

@@ -69,9 +69,10 @@ pub fn dump(next: StateNo, held: &[u8], event: EventNo, output: &mut [u8]) -> An
     }
     octets::copy(held, output);
     output[count] = event.0;
+    let released = count + 1;
     Answer::Taken {
         operation: Operation::Dump,
         run: Run::new(next),
-        released: count + 1,
+        released,
     }
 }

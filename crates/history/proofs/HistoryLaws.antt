@@ -90,6 +90,13 @@ module _ (m : Machine) (L : Laws m) (sheet : List ℕ) (D : Drawn m sheet) where
     unfolding lookOf
     look-move k = simp (lt-leb _ _ v, le-ltb _ _ f, lt-leb _ _ k) (cell-turn k)
 
+    -- so an event comes to the machine's move, if there is room for what its operation writes
+    pub turn-move : e .0 < m .events → (output : List ℕ)
+        → turnOf sheet run e memory output ≡ roomTurn (Move (m .operation to) (stateNo to)) (run .held) (length memory) (length output)
+    turn-move k output =
+        turn-is run e memory output
+        ∙ ap (λ (t : Turn). roomTurn t (run .held) (length memory) (length output)) (look-move k)
+
     see-room : (o : Operation) → m .operation to ≡ o → e .0 < m .events → (space : ℕ) → Dec (length memory ≤ run .held) → Dec (space ≤ run .held)
         → Seen m (run .state .0) (e .0) (run .held) (length memory) (roomTurn (Move o (stateNo to)) (run .held) (length memory) space)
     see-room Halt p k space a b = went Halt p k (λ h. absurd (halt-store refl h))
@@ -171,5 +178,5 @@ module _ (m : Machine) (L : Laws m) (sheet : List ℕ) (D : Drawn m sheet) where
   history-halted {run = run} {memory = memory} h before rest c p e k output =
       let f = follows h in
       let o : m .operation (m .next (run .state .0) (e .0)) ≡ Halt = L .halt-stays _ _ (f .valid) k (halted m L (f .course) before rest c p) in
-      turn-is run e memory output
-      ∙ ap (λ (t : Turn). roomTurn t (run .held) (length memory) (length output)) (look-move run e memory (f .valid) (f .within) k ∙ ap (λ (x : Operation). Move x (stateNo (m .next (run .state .0) (e .0)))) o)
+      turn-move run e memory (f .valid) (f .within) k output
+      ∙ ap (λ (x : Operation). roomTurn (Move x (stateNo (m .next (run .state .0) (e .0)))) (run .held) (length memory) (length output)) o

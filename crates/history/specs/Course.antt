@@ -5,7 +5,8 @@ use mathlib.Core.Path.{_≡_}
 use mathlib.Core.Bool.{true}
 use mathlib.Core.List.{List, [], _∷_, _++_}
 use lib.ListN.{length}
-use Rattle.rule.specs.Machine.{Machine, acceptsBy, Hopeless}
+use Rattle.rule.specs.Acceptance.{Hopeless}
+use Rattle.rule.specs.Machine.{Machine, acceptsBy}
 use Rattle.rule.specs.declared.Operation.{Operation}
 use Rattle.rule.specs.declared.Operation.the-variants.{Halt, Store, Dump}
 
@@ -60,8 +61,8 @@ pub record Kept (m : Machine) (log : List Entry) (released held : List ℕ) : Ty
   pub longest : Longest m (codes log) released
   pub whole : released ++ held ≡ beforeHalt log
   pub halts-only : (before rest : List Entry) (e : ℕ) → log ≡ before ++ record { code = e; operation = Halt } ∷ rest
-      → Hopeless m (codes before ++ e ∷ [])
+      → Hopeless (m .events) (acceptsBy m) (codes before ++ e ∷ [])
 
 -- and it halts at every such point
 pub record KeptSharp (m : Machine) (log : List Entry) : Type 0 where
-  pub halts-at-each : (before rest : List Entry) (x : Entry) → log ≡ before ++ x ∷ rest → Hopeless m (codes before ++ x .code ∷ []) → x .operation ≡ Halt
+  pub halts-at-each : (before rest : List Entry) (x : Entry) → log ≡ before ++ x ∷ rest → Hopeless (m .events) (acceptsBy m) (codes before ++ x .code ∷ []) → x .operation ≡ Halt

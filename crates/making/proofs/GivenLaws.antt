@@ -1,26 +1,27 @@
 -- Making a sheet: each refusal is given exactly when its row of the paper's table holds and no earlier one does, and a sheet is made exactly when no row holds.
 -- Assumes nothing.
 use Prim.Native.Nat.{ℕ}
-use mathlib.Core.Path.{_≡_}
+use mathlib.Core.Path.{_≡_, refl}
 use mathlib.Core.Logic.{_↔_}
 use mathlib.Core.List.{List}
 use lib.ListN.{length}
-use Rattle.rule.specs.Refusals.{toldOf}
+use Rattle.rule.specs.Given.{NoRow, Given, Ends}
 use Rattle.rule.specs.declared.Refusal.{Refusal}
-use Rattle.rulefile.specs.Given.{Row, NoneBefore, NoRow, NoRoom}
 use Rattle.rulefile.specs.Layout.{drawingIn}
 use Rattle.rulefile.specs.declared.Written.{Written}
 use Rattle.rulefile.specs.declared.Written.the-variants.{Done, Refused}
-use Rattle.rulefile.proofs.FaultLaws.{le-fails}
-use Rattle.rulefile.proofs.GivenLaws.{file-answers, put-gives, put-does}
-use Rattle.making.specs.Given.{making}
+use Rattle.rulefile.proofs.GivenLaws.{file-within, file-answers, put-gives, put-does, put-ends}
+use Rattle.making.specs.Given.{makingOrder, Making}
 use Rattle.making.specs.Making.{sheetOf, MakePromise}
+use Rattle.rulefile.specs.Writing.{writtenTold}
 
 module _ {f out : List ℕ} {w : Written} {out′ : List ℕ} (kept : MakePromise f out w out′) where
-  pub make-gives : (x : Refusal) → (w ≡ Refused x) ↔ (NoneBefore (toldOf x .number) (making f (length out)) × Row (making f (length out)) x)
-  make-gives =
-      put-gives (file-answers f (NoRoom (length (sheetOf (drawingIn f))) (length out))) (le-fails (length (sheetOf (drawingIn f))) (length out)) kept
+  pub make-gives : (x : Refusal) → (w ≡ Refused x) ↔ Given (Making f (length out)) x makingOrder
+  make-gives = put-gives (file-within f) refl (file-answers f) kept
 
-  pub make-done : (n : ℕ) → (w ≡ Done n) ↔ (NoRow (making f (length out)) × (n ≡ length (sheetOf (drawingIn f))))
-  make-done =
-      put-does (file-answers f (NoRoom (length (sheetOf (drawingIn f))) (length out))) (le-fails (length (sheetOf (drawingIn f))) (length out)) kept
+  pub make-done : (n : ℕ) → (w ≡ Done n) ↔ (NoRow (Making f (length out)) × (n ≡ length (sheetOf (drawingIn f))))
+  make-done = put-does (file-within f) refl (file-answers f) kept
+
+  -- how making ends: a refused call leaves the output as it was
+  pub make-ends : Ends (Making f (length out)) makingOrder (writtenTold w) (out′ ≡ out)
+  make-ends = put-ends (file-within f) refl (file-answers f) kept

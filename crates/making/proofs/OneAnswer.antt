@@ -1,10 +1,7 @@
--- Any two results that the promise of `make` allows are equal, in the answer and in the whole output. Assumes nothing.
-use Prim.Native.Nat.{ℕ}
-use mathlib.Core.Path.{_≡_, sym, _∙_}
-use mathlib.Core.List.{List}
-use Rattle.rulefile.specs.declared.Written.{Written}
-use Rattle.making.specs.Making.{MakePromise}
+-- Any two calls with the same arguments that the contract of a function of this crate allows are equal. Assumes nothing.
+use mathlib.Core.Path.{sym, _∙_}
+use Rattle.contracts.specs.Contract.{OneAnswer}
+use Rattle.making.proofs
 
-pub make-one-answer : (file out : List ℕ) {a b : Written} {o₁ o₂ : List ℕ} → MakePromise file out a o₁ → MakePromise file out b o₂
-    → (a ≡ b) × (o₁ ≡ o₂)
-make-one-answer file out p q = (p .answer ∙ sym (q .answer), p .output ∙ sym (q .output))
+pub make-one-answer : OneAnswer proofs.make.ended proofs.make.Reads.Learnt
+make-one-answer κs a x y = (x .told .answer ∙ sym (y .told .answer), λ i. (tt, ((x .told .output ∙ sym (y .told .output)) i, tt)))

@@ -3,10 +3,14 @@
 use Prim.Native.Nat.{ℕ}
 use mathlib.Core.List.{List}
 use lib.ListN.{length}
-use Rattle.rulefile.specs.Given.{Call, NoRoom, onFile}
+use Rattle.rule.specs.Given.{Table}
+use Rattle.rulefile.specs.Given.{Reading, readingOrder, Put, putOrder}
 use Rattle.rulefile.specs.Layout.{drawingIn}
 use Rattle.making.specs.Making.{sheetOf}
 
--- making a sheet looks at a rule file, and gives 1 to 10 and then 16
-abbrev pub making : List ℕ → ℕ → Call
-making f room = onFile f (NoRoom (length (sheetOf (drawingIn f))) room)
+-- making a sheet gives what reading gives, and then 16
+abbrev pub makingOrder : List ℕ
+makingOrder = putOrder readingOrder
+
+abbrev pub Making : List ℕ → ℕ → Table
+Making f room = Put (Reading f) (length (sheetOf (drawingIn f))) room

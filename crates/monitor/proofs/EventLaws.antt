@@ -3,12 +3,13 @@
 use Prim.Native.Nat.{ℕ, _+_, _*_, _/_, _%_, _≤_, _<_}
 use native.Mathlib.Omega.{arith}
 use mathlib.Core.Path.{_≡_, refl, sym, _∙_}
-use mathlib.Core.Bool.{Bool, true, false, cond, _||_, or-true}
+use mathlib.Core.Bool.{Bool, true, false, cond, _||_}
 use mathlib.Core.List.{List}
 use lib.Dec.{leb, ltb, eqb}
-use lib.ListN.{length, take, length-take}
+use lib.ListN.{length, getD, take, length-take}
 use lib.Seq.{length-take-le, take-all}
-use borrow.Author.Tests.{le-ltb, lt-ltb, le-leb, lt-leb, eq-eqb, ne-eqb, leb-false, ltb-false}
+use borrow.Author.Tests.{le-leb, lt-leb, ne-eqb, leb-false, ltb-false}
+use Rattle.rule.specs.Reach.{placeOf}
 use Rattle.rule.specs.Drawing.{stateNo}
 use Rattle.rule.specs.declared.StateNo.{StateNo}
 use Rattle.rule.specs.declared.EventNo.{EventNo}
@@ -21,9 +22,8 @@ use Rattle.sheet.proofs.OpeningLaws.{place-inside}
 use Rattle.sheet.specs.declared.Head.{Head}
 use Rattle.sheet.specs.declared.Opened.{Opened}
 use Rattle.sheet.specs.declared.Opened.the-variants.{Sheet, Refused as Shut}
-use Rattle.monitor.specs.Event.{operationOf, cellTurn, lookOf, StepPromise, EventPromise}
+use Rattle.monitor.specs.Event.{operationOf, cellTurn, cellAt, lookOf, StepPromise, EventPromise}
 use Rattle.effects.specs.Effects.{roomTurn, memoryIn, outputIn, TurnPromise, StorePromise, DumpPromise}
-use Rattle.monitor.specs.Given.{cellRead, RunFits, CodeFits, WrongRun, state-past, held-past, WrongCode, WrongCell, operation-3, next-past, Reads}
 use Rattle.effects.specs.declared.Run.{Run}
 use Rattle.effects.specs.declared.Turn.{Turn}
 use Rattle.effects.specs.declared.Turn.the-variants.{Move, Refused}
@@ -64,41 +64,22 @@ module _ (h : Head) (sheet : List ℕ) (run : Run) (e : EventNo) (room : ℕ) wh
     pub state-fits : run .state .0 < h .states
     state-fits = leb-false _ _ (left-false (leb (h .states) (run .state .0)) (ltb room (run .held)) fits)
 
-    pub cell-inside : Sheet h ≡ openedOf sheet → e .0 < h .events → run .state .0 * h .events + e .0 < length sheet
-    cell-inside o a = place-inside sheet h o (run .state .0) state-fits (e .0) a
+    pub cell-inside : {i : ℕ} → i ≡ placeOf (h .events) (run .state .0) (e .0) → Sheet h ≡ openedOf sheet → e .0 < h .events → i < length sheet
+    cell-inside q o a = rw q (place-inside sheet h o (run .state .0) state-fits (e .0) a)
 
     pub code-13 : h .events ≤ e .0 → Refused Code ≡ lookOf h sheet run e room
     unfolding lookOf
     code-13 a = rw (fits, le-leb _ _ a)
 
     -- with none of these it is what the cell says
-    pub code-fits : {t : Turn} → e .0 < h .events → t ≡ cellTurn (cellRead h sheet run e) (h .states) run e → t ≡ lookOf h sheet run e room
+    pub code-fits : {t : Turn} → e .0 < h .events → t ≡ cellTurn (cellAt h sheet run e) (h .states) run e → t ≡ lookOf h sheet run e room
     unfolding lookOf
     code-fits a p = p ∙ rw (fits, lt-leb _ _ a)
 
--- the same by the rows of the table
-module _ {h : Head} (sheet : List ℕ) {run : Run} (e : EventNo) {room : ℕ} where
-  pub look-12 : WrongRun h run room → Refused BadRun ≡ lookOf h sheet run e room
-  look-12 (state-past a) = run-12 h sheet run e room (simp (le-leb _ _ a))
-  look-12 (held-past a) = run-12 h sheet run e room (simp (lt-ltb _ _ a, or-true))
-
-  run-fits : RunFits h run room → (leb (h .states) (run .state .0) || ltb room (run .held)) ≡ false
-  run-fits f = simp (lt-leb _ _ (f .state-in), le-ltb _ _ (f .held-in))
-
-  pub look-13 : WrongCode h run e room → Refused Code ≡ lookOf h sheet run e room
-  look-13 w = code-13 h sheet run e room (run-fits (w .run-fits)) (w .event-past)
-
-  look-cell : {t : Turn} → CodeFits h run e room → t ≡ cellTurn (cellRead h sheet run e) (h .states) run e → t ≡ lookOf h sheet run e room
-  look-cell f = code-fits h sheet run e room (run-fits (f .run-fits)) (f .event-in)
-
-  pub look-14 : WrongCell h sheet run e room → Refused (Cell (run .state) e) ≡ lookOf h sheet run e room
-  look-14 (operation-3 f a) = look-cell f (cell-14 (cellRead h sheet run e) (h .states) run e (simp (eq-eqb _ _ a)))
-  look-14 (next-past f a) = look-cell f (cell-14 (cellRead h sheet run e) (h .states) run e (simp (le-leb _ _ a, or-true)))
-
-  pub look-move : {o : Operation} → Reads h sheet run e room o → Move o (stateNo (cellRead h sheet run e % 64)) ≡ lookOf h sheet run e room
-  look-move r =
-      let f = r .cell-fits in
-      look-cell (f .code-fits) (cell-move (cellRead h sheet run e) (h .states) run e (simp (ne-eqb _ _ (f .operation-in), lt-leb _ _ (f .next-in))) (r .operation))
+    -- the cell read at its place
+    pub place-fits : {t : Turn} {i : ℕ} → i ≡ placeOf (h .events) (run .state .0) (e .0) → e .0 < h .events
+        → t ≡ cellTurn (getD sheet i 0) (h .states) run e → t ≡ lookOf h sheet run e room
+    place-fits q a p = code-fits a (p ∙ rw q)
 
 -- a move is found only where no more is held than the memory is long
 pub move-held : (h : Head) (sheet : List ℕ) (run : Run) (e : EventNo) (room : ℕ) (t : Turn) {o : Operation} {n : StateNo}

@@ -1,174 +1,197 @@
--- Each refusal of an event is given exactly when its row of the table holds and no earlier row does; a refused event changes nothing.
--- Assumes nothing.
-use Prim.Native.Nat.{ℕ, _+_, _/_, _%_}
-use native.Mathlib.Decide.{decLe, decLt, ℕ-discrete}
+-- Each refusal of an event is given exactly when its row of the table holds and no earlier row does, and an event is taken exactly when
+-- no row holds; a refused event changes nothing. Assumes nothing.
+use Prim.Native.Nat.{ℕ, _/_, _%_, _≤_, _<_}
 use native.Mathlib.Omega.{arith}
-use mathlib.Core.Path.{_≡_, refl, sym, subst, _∙_}
-use mathlib.Core.List.{List}
-use mathlib.Core.Logic.{_↔_}
+use mathlib.Core.Path.{_≡_, refl, sym, _∙_}
+use mathlib.Core.Bool.{Bool, true, false, cond, not, _&&_, _||_}
+use mathlib.Core.List.{List, [], _∷_}
+use mathlib.Core.Logic.{_⊎_, inl, inr, ⊎-elim, _↔_, Iff·trans}
 use lib.ListN.{length}
-use borrow.Author.Tests.{le-leb, lt-leb}
+use lib.Dec.{leb, ltb, eqb}
+use Rattle.rule.specs.Refusals.{Numbered, refuseIf}
+use Rattle.rule.specs.Given.{Table, NoRow, Given, done, refused, Ends}
 use Rattle.rule.specs.declared.StateNo.{StateNo}
 use Rattle.rule.specs.declared.EventNo.{EventNo}
 use Rattle.rule.specs.declared.Operation.{Operation}
 use Rattle.rule.specs.declared.Operation.the-variants.{Halt, Store, Dump}
 use Rattle.rule.specs.declared.Refusal.{Refusal}
 use Rattle.rule.specs.declared.Refusal.the-variants.{Sheet as NoSheet, Run as BadRun, Code, Cell, Memory, Room}
+use Rattle.rule.specs.declared.Verdict.{Verdict}
+use Rattle.rule.specs.declared.Verdict.the-variants.{Sound, Refused as Unsound}
+use Rattle.rule.proofs.BoolLaws.{Says, eq-says, le-says, lt-says, and-says, or-says}
+use Rattle.rule.proofs.RefusalLaws.{not-both}
+use Rattle.rule.proofs.TableLaws.{Within, Decides, Answers, decided, end, then, sound-exactly, numbers}
 use Rattle.sheet.specs.Given.{BadSheet}
-use Rattle.sheet.specs.Opening.{openedOf}
-use Rattle.sheet.specs.declared.Head.{Head}
-use Rattle.sheet.specs.declared.Opened.{Opened}
+use Rattle.sheet.specs.Opening.{headIn, opens, openedOf}
 use Rattle.sheet.specs.declared.Opened.the-variants.{Sheet, Refused as Shut}
-use Rattle.sheet.proofs.OpeningLaws.{refused-when}
-use Rattle.monitor.specs.Event.{operationOf, turnOf, EventPromise}
-use Rattle.effects.specs.Effects.{roomTurn}
-use Rattle.monitor.specs.Given.{cellRead, RunFits, CodeFits, CellFits, WrongRun, state-past, held-past, WrongCode, WrongCell, operation-3, next-past, Reads, NoMemory, NoRoom, HasRoom, halt, store, dump, Takes, On, Comes, at-11, at-12, at-13, at-14, at-15, at-16, taken}
+use Rattle.sheet.proofs.OpeningLaws.{shut-says}
+use Rattle.effects.specs.Effects.{roomTurn, answerIn, answerTold, memoryIn, outputIn}
 use Rattle.effects.specs.declared.Run.{Run}
 use Rattle.effects.specs.declared.Turn.{Turn}
 use Rattle.effects.specs.declared.Turn.the-variants.{Move, Refused}
 use Rattle.effects.specs.declared.Answer.{Answer}
-use Rattle.effects.specs.declared.Answer.the-variants.{Refused as Declined}
-use Rattle.monitor.proofs.EventLaws.{look-12, look-13, look-14, look-move}
+use Rattle.monitor.specs.Event.{cellTurn, lookOf, turnBy, turnOf, EventPromise}
+use Rattle.monitor.specs.Given.{cellRead, operationRead, nextRead, eventOrder, bad-sheet, EventRow, opening, state-past, held-past, event-past}
+use Rattle.monitor.specs.Given.{operation-3, next-past, memory-full, output-short}
+
+-- what a turn refuses
+abbrev saying : Turn → Verdict
+saying (Refused x) = Unsound x
+saying (Move o s) = Sound
+
+saying-refused : (t : Turn) (x : Refusal) → (t ≡ Refused x) ↔ (saying t ≡ Unsound x)
+saying-refused (Refused y) x = (λ p. cc, λ p. cc)
+saying-refused (Move o s) x = (λ p. absurd (let z : _≡_ {A = ℕ} 0 1 = cc in omega arith), not-both refl)
+
+-- of the rows with these numbers the turn refuses by the first that holds, and else it moves so
+record Turns (T : Table) (order : List ℕ) (o : Operation) (s : StateNo) (t : Turn) : Type 0 where
+  rows : Answers T order (saying t)
+  moves : saying t ≡ Sound → t ≡ Move o s
+
+module _ {T : Table} {o : Operation} {s : StateNo} where
+  test : (n : ℕ) (x : Refusal) {A : Type 0} {b : Bool} {l : List ℕ} {t : Turn} → Says b A → (A → T n x) → ((y : Refusal) → T n y → (x ≡ y) × A)
+      → Turns T l o s t → Turns T (n ∷ l) o s (cond b (Refused x) t)
+  test n x {b = b} {l = l} {t = t} says to from r = by b (decided T n says to from)
+    where
+      by : (b : Bool) → Decides T n (refuseIf b x) → Turns T (n ∷ l) o s (cond b (Refused x) t)
+      by true iff = record { rows = then {w = Sound} (Unsound x) iff (λ p. not-both p refl); moves = λ p. not-both p refl }
+      by false iff = record { rows = then Sound iff (λ _. r .rows); moves = r .moves }
+
+abbrev is-store : Operation → Bool
+is-store Halt = false
+is-store Store = true
+is-store Dump = false
+
+abbrev is-dump : Operation → Bool
+is-dump Halt = false
+is-dump Store = false
+is-dump Dump = true
+
+store-says : (o : Operation) → Says (is-store o) (o ≡ Store)
+store-says Halt = (λ p. cc, λ p. cc)
+store-says Store = (λ p. refl, λ p. refl)
+store-says Dump = (λ p. cc, λ p. cc)
+
+dump-says : (o : Operation) → Says (is-dump o) (o ≡ Dump)
+dump-says Halt = (λ p. cc, λ p. cc)
+dump-says Store = (λ p. cc, λ p. cc)
+dump-says Dump = (λ p. refl, λ p. refl)
 
 module _ (sheet : List ℕ) (run : Run) (e : EventNo) (memory output : List ℕ) where
-  -- a row gives its turn
-  pub comes-turn : {t : Turn} → Comes sheet run e memory output t → turnOf sheet run e memory output ≡ t
-  comes-turn (at-11 b) = rw (refused-when sheet .1 b)
-  comes-turn (at-12 o) = rw (o .opened, ← look-12 sheet e (o .row))
-  comes-turn (at-13 o) = rw (o .opened, ← look-13 sheet e (o .row))
-  comes-turn (at-14 o) = rw (o .opened, ← look-14 sheet e (o .row))
-  comes-turn (at-15 o) = rw (o .opened, ← look-move sheet e (o .row .store), le-leb _ _ (o .row .full))
-  comes-turn (at-16 o) = rw (o .opened, ← look-move sheet e (o .row .dump), le-leb (length output) (run .held) (let h = o .row .over in omega arith))
-  comes-turn (taken o) = rw (o .opened, ← look-move sheet e (o .row .cell), o .row .next) (room (o .row .has-room))
+  abbrev T : Table
+  T = EventRow sheet run e (length memory) (length output)
+
+  event-within : Within eventOrder T
+  event-within n x (opening (bad-sheet a)) = record { number = refl; listed = refl }
+  event-within n x (state-past a) = record { number = refl; listed = refl }
+  event-within n x (held-past a) = record { number = refl; listed = refl }
+  event-within n x (event-past a) = record { number = refl; listed = refl }
+  event-within n x (operation-3 a) = record { number = refl; listed = refl }
+  event-within n x (next-past a) = record { number = refl; listed = refl }
+  event-within n x (memory-full q a) = record { number = refl; listed = refl }
+  event-within n x (output-short q a) = record { number = refl; listed = refl }
+
+  abbrev N : ℕ
+  N = headIn sheet .states
+
+  abbrev cell : ℕ
+  cell = cellRead sheet run e
+
+  abbrev o : Operation
+  o = operationRead sheet run e
+
+  -- the tests in order
+  abbrev tested : Turn
+  tested =
+      cond (not (opens sheet)) (Refused NoSheet)
+      (cond (leb N (run .state .0) || ltb (length memory) (run .held)) (Refused BadRun)
+      (cond (leb (headIn sheet .events) (e .0)) (Refused Code)
+      (cond (eqb (cell / 64) 3 || leb N (cell % 64)) (Refused (Cell (run .state) e))
+      (cond (is-store o && leb (length memory) (run .held)) (Refused Memory)
+      (cond (is-dump o && leb (length output) (run .held)) (Refused Room) (Move o (nextRead sheet run e)))))))
+
+  -- those for room come last
+  room-last : (b c d : Bool) (o : Operation) (n : StateNo)
+      → roomTurn (cond b (Refused BadRun) (cond c (Refused Code) (cond d (Refused (Cell (run .state) e)) (Move o n))))
+      (run .held) (length memory) (length output)
+      ≡ cond b (Refused BadRun) (cond c (Refused Code) (cond d (Refused (Cell (run .state) e))
+      (cond (is-store o && leb (length memory) (run .held)) (Refused Memory) (cond (is-dump o && leb (length output) (run .held)) (Refused Room) (Move o n)))))
+  room-last true c d o n = refl
+  room-last false true d o n = refl
+  room-last false false true o n = refl
+  room-last false false false Halt n = refl
+  room-last false false false Store n = refl
+  room-last false false false Dump n = refl
+
+  turn-tested : turnOf sheet run e memory output ≡ tested
+  unfolding openedOf lookOf cellTurn
+  turn-tested =
+      by (opens sheet)
+      ∙ rw (room-last (leb N (run .state .0) || ltb (length memory) (run .held)) (leb (headIn sheet .events) (e .0))
+      (eqb (cell / 64) 3 || leb N (cell % 64)) o _)
     where
-      room : {o : Operation} {t : StateNo} → HasRoom run (length memory) (length output) o → roomTurn (Move o t) (run .held) (length memory) (length output) ≡ Move o t
-      room halt = refl
-      room (store h) = rw (lt-leb _ _ h)
-      room (dump h) = rw (lt-leb (length output) (run .held) (omega arith))
+      by : (a : Bool) → turnBy (cond a (Sheet (headIn sheet)) Shut) sheet run e memory output
+          ≡ cond (not a) (Refused NoSheet) (roomTurn (lookOf (headIn sheet) sheet run e (length memory)) (run .held) (length memory) (length output))
+      by true = refl
+      by false = refl
 
-  -- one of the rows holds
-  record Some : Type 0 where
-    turn : Turn
-    comes : Comes sheet run e memory output turn
+  by-11 : (y : Refusal) → T 11 y → (NoSheet ≡ y) × BadSheet sheet
+  by-11 y (opening (bad-sheet a)) = (refl, a)
 
-  some : {t : Turn} → Comes sheet run e memory output t → Some
-  some c = record { turn = _; comes = c }
+  by-12 : (y : Refusal) → T 12 y → (BadRun ≡ y) × ((N ≤ run .state .0) ⊎ (length memory < run .held))
+  by-12 y (state-past a) = (refl, inl a)
+  by-12 y (held-past a) = (refl, inr a)
 
-  module _ (h : Head) (p : openedOf sheet ≡ Sheet h) where
-    on : {Row : Head → Type 0} → Row h → On sheet Row
-    on r = record { head = h; opened = p; row = r }
+  by-13 : (y : Refusal) → T 13 y → (Code ≡ y) × (headIn sheet .events ≤ e .0)
+  by-13 y (event-past a) = (refl, a)
 
-    by-operation : CellFits h sheet run e (length memory) → (o : Operation) → operationOf (cellRead h sheet run e / 64) ≡ o → Some
-    by-operation f Halt q =
-        some (taken (on (record { cell = record { cell-fits = f; operation = q }; next = refl; has-room = halt })))
-    by-operation f Store q =
-        let r : Reads h sheet run e (length memory) Store = record { cell-fits = f; operation = q } in
-        elim (decLe (length memory) (run .held)) [
-          | yes a ↦ some (at-15 (on (record { store = r; full = a })))
-          | no a ↦ some (taken (on (record { cell = r; next = refl; has-room = store (omega arith) })))
-        ]
-    by-operation f Dump q =
-        let r : Reads h sheet run e (length memory) Dump = record { cell-fits = f; operation = q } in
-        elim (decLt (length output) (run .held + 1)) [
-          | yes a ↦ some (at-16 (on (record { dump = r; over = a })))
-          | no a ↦ some (taken (on (record { cell = r; next = refl; has-room = dump (omega arith) })))
-        ]
+  by-14 : (y : Refusal) → T 14 y → (Cell (run .state) e ≡ y) × ((cell / 64 ≡ 3) ⊎ (N ≤ cell % 64))
+  by-14 y (operation-3 a) = (refl, inl a)
+  by-14 y (next-past a) = (refl, inr a)
 
-    by-cell : CodeFits h run e (length memory) → Some
-    by-cell f =
-        elim (ℕ-discrete (cellRead h sheet run e / 64) 3) [
-          | yes a ↦ some (at-14 (on (operation-3 f a)))
-          | no a ↦
-              elim (decLe (h .states) (cellRead h sheet run e % 64)) [
-                | yes b ↦ some (at-14 (on (next-past f b)))
-                | no b ↦
-                    by-operation
-                    (record { code-fits = f; operation-in = a; next-in = omega arith })
-                    (operationOf (cellRead h sheet run e / 64))
-                    refl
-              ]
-        ]
+  by-15 : (y : Refusal) → T 15 y → (Memory ≡ y) × ((o ≡ Store) × (length memory ≤ run .held))
+  by-15 y (memory-full q a) = (refl, (q, a))
 
-    by-code : RunFits h run (length memory) → Some
-    by-code f =
-        elim (decLe (h .events) (e .0)) [
-          | yes a ↦ some (at-13 (on (record { run-fits = f; event-past = a })))
-          | no a ↦ by-cell (record { run-fits = f; event-in = omega arith })
-        ]
+  by-16 : (y : Refusal) → T 16 y → (Room ≡ y) × ((o ≡ Dump) × (length output ≤ run .held))
+  by-16 y (output-short q a) = (refl, (q, omega arith))
 
-    by-run : Some
-    by-run =
-        elim (decLe (h .states) (run .state .0)) [
-          | yes a ↦ some (at-12 (on (state-past a)))
-          | no a ↦
-              elim (decLt (length memory) (run .held)) [
-                | yes b ↦ some (at-12 (on (held-past b)))
-                | no b ↦ by-code (record { state-in = omega arith; held-in = omega arith })
-              ]
-        ]
+  turns : Turns T eventOrder o (nextRead sheet run e) (turnOf sheet run e memory output)
+  turns =
+      rw turn-tested
+      (test 11 NoSheet (shut-says sheet) (λ a. opening (bad-sheet a)) by-11
+      (test 12 BadRun (or-says (le-says N (run .state .0)) (lt-says (length memory) (run .held))) (⊎-elim state-past held-past) by-12
+      (test 13 Code (le-says (headIn sheet .events) (e .0)) event-past by-13
+      (test 14 (Cell (run .state) e) (or-says (eq-says (cell / 64) 3) (le-says N (cell % 64))) (⊎-elim operation-3 next-past) by-14
+      (test 15 Memory (and-says (store-says o) (le-says (length memory) (run .held))) (λ a. memory-full (a .0) (a .1)) by-15
+      (test 16 Room (and-says (dump-says o) (le-says (length output) (run .held))) (λ a. output-short (a .0) (omega (arith, a .1))) by-16
+      (record { rows = end; moves = λ p. refl })))))))
 
-  by-sheet : (o : Opened) → openedOf sheet ≡ o → Some
-  by-sheet Shut p = some (at-11 (refused-when sheet .0 p))
-  by-sheet (Sheet h) p = by-run h p
+  -- each refusal is given exactly when its row holds and no earlier one does
+  pub refused-when : (x : Refusal) → (turnOf sheet run e memory output ≡ Refused x) ↔ Given T x eventOrder
+  refused-when x = Iff·trans (saying-refused (turnOf sheet run e memory output) x) (turns .rows .gives x)
 
-  -- an event comes to a turn exactly when its row holds
-  pub comes-when : (t : Turn) → (turnOf sheet run e memory output ≡ t) ↔ Comes sheet run e memory output t
-  comes-when t = (to, comes-turn)
+  -- an event is taken exactly when no row holds, with the operation and the next state of the cell that is read
+  pub taken-when : (a : Operation) (t : StateNo) → (turnOf sheet run e memory output ≡ Move a t) ↔ (NoRow T × (o ≡ a) × (nextRead sheet run e ≡ t))
+  taken-when a t = (
+    λ p.
+        let s : saying (turnOf sheet run e memory output) ≡ Sound = rw p in
+        let m = sym (turns .moves s) ∙ p in
+        (sound-exactly event-within (turns .rows) .0 s, cc, cc),
+    λ p. turns .moves (sound-exactly event-within (turns .rows) .1 (p .0)) ∙ rw (p .1, p .2),
+  )
+
+  -- a refused event has one of the numbers of the order
+  pub turn-refuses : (x : Refusal) → turnOf sheet run e memory output ≡ Refused x → Numbered eventOrder x
+  turn-refuses x p = numbers event-within (turns .rows) x (saying-refused _ x .0 p)
+
+  -- how an event ends: a refused one leaves the memory and the output as they were
+  pub event-ends : {r : Answer} {memory′ output′ : List ℕ} → EventPromise sheet run e memory output r memory′ output′
+      → Ends T eventOrder (answerTold r) ((memory′ ≡ memory) × (output′ ≡ output))
+  event-ends {r} {memory′} {output′} p = by _ refl (p .answer) (p .memory-after) (p .output-after)
     where
-      to : turnOf sheet run e memory output ≡ t → Comes sheet run e memory output t
-      to p =
-          let s = by-sheet (openedOf sheet) refl in
-          subst (λ (x : Turn). Comes sheet run e memory output x) (sym (comes-turn (s .comes)) ∙ p) (s .comes)
-
-  -- each refusal is given exactly when its row holds
-  pub given-11 : (turnOf sheet run e memory output ≡ Refused NoSheet) ↔ BadSheet sheet
-  given-11 = (λ p. row (comes-when _ .0 p), λ r. comes-turn (at-11 r))
-    where
-      row : Comes sheet run e memory output (Refused NoSheet) → BadSheet sheet
-      row (at-11 r) = r
-
-  pub given-12 : (turnOf sheet run e memory output ≡ Refused BadRun) ↔ On sheet (λ h. WrongRun h run (length memory))
-  given-12 = (λ p. row (comes-when _ .0 p), λ r. comes-turn (at-12 r))
-    where
-      row : Comes sheet run e memory output (Refused BadRun) → On sheet (λ h. WrongRun h run (length memory))
-      row (at-12 r) = r
-
-  pub given-13 : (turnOf sheet run e memory output ≡ Refused Code) ↔ On sheet (λ h. WrongCode h run e (length memory))
-  given-13 = (λ p. row (comes-when _ .0 p), λ r. comes-turn (at-13 r))
-    where
-      row : Comes sheet run e memory output (Refused Code) → On sheet (λ h. WrongCode h run e (length memory))
-      row (at-13 r) = r
-
-  pub given-14 : (s : StateNo) (x : EventNo)
-      → (turnOf sheet run e memory output ≡ Refused (Cell s x)) ↔ (On sheet (λ h. WrongCell h sheet run e (length memory)) × (s ≡ run .state) × (x ≡ e))
-  given-14 s x = (λ p. row (comes-when _ .0 p), λ r. comes-turn (at-14 (r .0)) ∙ rw (r .1, r .2))
-    where
-      row : {s : StateNo} {x : EventNo} → Comes sheet run e memory output (Refused (Cell s x))
-          → On sheet (λ h. WrongCell h sheet run e (length memory)) × (s ≡ run .state) × (x ≡ e)
-      row (at-14 r) = (r, refl, refl)
-
-  pub given-15 : (turnOf sheet run e memory output ≡ Refused Memory) ↔ On sheet (λ h. NoMemory h sheet run e (length memory))
-  given-15 = (λ p. row (comes-when _ .0 p), λ r. comes-turn (at-15 r))
-    where
-      row : Comes sheet run e memory output (Refused Memory) → On sheet (λ h. NoMemory h sheet run e (length memory))
-      row (at-15 r) = r
-
-  pub given-16 : (turnOf sheet run e memory output ≡ Refused Room) ↔ On sheet (λ h. NoRoom h sheet run e (length memory) (length output))
-  given-16 = (λ p. row (comes-when _ .0 p), λ r. comes-turn (at-16 r))
-    where
-      row : Comes sheet run e memory output (Refused Room) → On sheet (λ h. NoRoom h sheet run e (length memory) (length output))
-      row (at-16 r) = r
-
-  -- an event is taken exactly when none of them holds
-  pub taken-when : (o : Operation) (t : StateNo)
-      → (turnOf sheet run e memory output ≡ Move o t) ↔ On sheet (λ h. Takes h sheet run e (length memory) (length output) o t)
-  taken-when o t = (λ p. row (comes-when _ .0 p), λ r. comes-turn (taken r))
-    where
-      row : {o : Operation} {t : StateNo} → Comes sheet run e memory output (Move o t)
-          → On sheet (λ h. Takes h sheet run e (length memory) (length output) o t)
-      row (taken r) = r
-
-  -- a refused event changes nothing
-  pub refused-kept : {x : Refusal} {r : Answer} {memory′ output′ : List ℕ} → turnOf sheet run e memory output ≡ Refused x
-      → EventPromise sheet run e memory output r memory′ output′ → (r ≡ Declined x) × (memory′ ≡ memory) × (output′ ≡ output)
-  refused-kept p h = (h .answer ∙ rw p, h .memory-after ∙ rw p, h .output-after ∙ rw p)
+      by : (t : Turn) → turnOf sheet run e memory output ≡ t → r ≡ answerIn t (run .held) → memory′ ≡ memoryIn t (run .held) (e .0) memory
+          → output′ ≡ outputIn t (run .held) (e .0) memory output → Ends T eventOrder (answerTold r) ((memory′ ≡ memory) × (output′ ≡ output))
+      by (Refused x) q a m o = rw a (record { tells = refused (refused-when x .0 q); rest = λ n. (m, o) })
+      by (Move Halt s) q a m o = rw a (record { tells = done (taken-when Halt s .0 q .0); rest = λ n. absurd (n refl) })
+      by (Move Store s) q a m o = rw a (record { tells = done (taken-when Store s .0 q .0); rest = λ n. absurd (n refl) })
+      by (Move Dump s) q a m o = rw a (record { tells = done (taken-when Dump s .0 q .0); rest = λ n. absurd (n refl) })

@@ -1,5 +1,4 @@
 pub mod EventLaws
 pub mod FreshLaws
-pub mod AnswerLaws
 pub mod GivenLaws
 pub mod OneAnswer

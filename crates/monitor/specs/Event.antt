@@ -5,6 +5,7 @@ use mathlib.Core.Bool.{cond, _||_}
 use mathlib.Core.List.{List}
 use lib.ListN.{length, getD}
 use lib.Dec.{leb, ltb, eqb}
+use Rattle.rule.specs.Reach.{placeOf}
 use Rattle.rule.specs.Drawing.{stateNo}
 use Rattle.rule.specs.declared.EventNo.{EventNo}
 use Rattle.rule.specs.declared.Operation.{Operation}
@@ -30,12 +31,16 @@ cellTurn cell states run e =
     cond (eqb (cell / 64) 3 || leb states (cell % 64)) (Refused (Cell (run .state) e))
     (Move (operationOf (cell / 64)) (stateNo (cell % 64)))
 
+-- the cell of the run's state and the event
+abbrev pub cellAt : Head → (sheet : List ℕ) → Run → EventNo → ℕ
+cellAt h sheet run e = getD sheet (placeOf (h .events) (run .state .0) (e .0)) 0
+
 -- 12: state >= N, or more held than the memory is long; 13: event >= K; then what the cell says
 unfoldable pub lookOf : Head → (sheet : List ℕ) → Run → EventNo → (room : ℕ) → Turn
 lookOf h sheet run e room =
     cond (leb (h .states) (run .state .0) || ltb room (run .held)) (Refused BadRun)
     (cond (leb (h .events) (e .0)) (Refused Code)
-    (cellTurn (getD sheet (run .state .0 * h .events + e .0) 0) (h .states) run e))
+    (cellTurn (cellAt h sheet run e) (h .states) run e))
 
 -- what an event comes to on an opened sheet
 abbrev pub stepTurn : Head → (sheet : List ℕ) → Run → EventNo → (memory output : List ℕ) → Turn

@@ -12,6 +12,7 @@ use rule::EventNo;
 use rule::Operation;
 use rule::Refusal;
 use rule::StateNo;
+use rule::place;
 use sheet::Head;
 
 // What a cell says: refusal 14, or a move. Its two tests, and those of 12 below, are joined by `|`: one branch for both.
@@ -41,7 +42,7 @@ pub(crate) fn look(sheet: &[u8], head: Head, run: Run, event: EventNo, room: usi
     if head.events <= event.0 {
         return Turn::Refused(Refusal::Code);
     }
-    let at = run.state.0 as usize * head.events as usize + event.0 as usize;
+    let at = place(head.events, run.state, event);
     read(sheet[at], head.states, run, event)
 }
 

@@ -8,6 +8,7 @@ use reach::reached_sets;
 use reach::sets::contains;
 use rule::Operation;
 use rule::Pair;
+use rule::Rule;
 use rule::Shape;
 use rule::StateNo;
 
@@ -64,7 +65,7 @@ pub fn into_states(shape: Shape, table: &[u8], pairs: [Pair; 8]) -> [Operation; 
     let mut operations = [Operation::Halt; 64];
     for s in 0..states {
         let at = s as usize;
-        if at < 64 {
+        if s < Rule::STATES {
             operations[at] = operation(pairs, shape.pairs, sets[at], StateNo(s));
         }
     }

@@ -1,3 +1,3 @@
 pub mod ToldLaws
-pub mod RefusedLaws
+pub mod EndsLaws
 pub mod OneAnswer

@@ -1,29 +1,22 @@
--- Any two results that a promise of this crate allows are equal.
--- Assumes nothing.
-use Prim.Native.Nat.{ℕ}
-use mathlib.Core.Path.{_≡_, sym, ap, _∙_}
-use mathlib.Core.List.{List}
-use Rattle.making.proofs.OneAnswer.{make-one-answer}
-use Rattle.monitor.proofs.OneAnswer.{event-one-answer}
-use Rattle.effects.specs.declared.Answer.{Answer}
-use Rattle.pachallu.specs.Told.{madeOf, answeredOf, runOf, MakeForC, FreshForC, EventForC}
-use Rattle.pachallu.specs.declared.Made.{Made}
-use Rattle.pachallu.specs.declared.Started.{Started}
-use Rattle.pachallu.specs.declared.Answered.{Answered}
+-- Any two calls with the same arguments that the contract of a function of this crate allows are equal. Assumes nothing.
+use mathlib.Core.Path.{refl, sym, ap, _∙_}
+use Rattle.contracts.specs.Contract.{OneAnswer}
+use Rattle.pachallu.specs.Told.{madeOf, answeredOf, runOf}
+use Rattle.pachallu.proofs
 
--- the numbers and the sheet
-pub pachallu-make-one-answer : {rule sheet : List ℕ} {a b : Made} {s₁ s₂ : List ℕ} → MakeForC rule sheet a s₁ → MakeForC rule sheet b s₂
-    → (a ≡ b) × (s₁ ≡ s₂)
-pachallu-make-one-answer {rule} {sheet} p q =
-    let one = make-one-answer rule sheet (p .promise) (q .promise) in (p .told ∙ ap madeOf (one .0) ∙ sym (q .told), one .1)
+pub pachallu-make-one-answer : OneAnswer proofs.pachallu_make.ended proofs.pachallu_make.Reads.Learnt
+pachallu-make-one-answer κs a x y = (
+  x .told .told ∙ ap madeOf (x .told .promise .answer ∙ sym (y .told .promise .answer)) ∙ sym (y .told .told),
+  λ i. (tt, ((x .told .promise .output ∙ sym (y .told .promise .output)) i, tt)),
+)
 
-pub pachallu-fresh-one-answer : (sheet : List ℕ) {a b : Started} → FreshForC sheet a → FreshForC sheet b → a ≡ b
-pachallu-fresh-one-answer sheet p q = p ∙ sym q
+pub pachallu-fresh-one-answer : OneAnswer proofs.pachallu_fresh.ended proofs.pachallu_fresh.Reads.Learnt
+pachallu-fresh-one-answer κs a x y = (x .told ∙ sym (y .told), refl)
 
--- the numbers, the memory and the output
-pub pachallu-event-one-answer : {sheet : List ℕ} {state held event : ℕ} {memory output : List ℕ} {a b : Answered} {m₁ m₂ o₁ o₂ : List ℕ}
-    → EventForC sheet state held event memory output a m₁ o₁ → EventForC sheet state held event memory output b m₂ o₂
-    → (a ≡ b) × (m₁ ≡ m₂) × (o₁ ≡ o₂)
-pachallu-event-one-answer {sheet} {state} {held} p q =
-    let one = event-one-answer sheet (p .promise) (q .promise) in
-    (p .told ∙ ap (λ (r : Answer). answeredOf r (runOf state held)) (one .0) ∙ sym (q .told), one .1, one .2)
+pub pachallu-event-one-answer : OneAnswer proofs.pachallu_event.ended proofs.pachallu_event.Reads.Learnt
+pachallu-event-one-answer κs a x y =
+    let p = x .told .promise in
+    let q = y .told .promise in (
+      x .told .told ∙ ap (λ r. answeredOf r (runOf (a .1 .0) (a .1 .1 .0))) (p .answer ∙ sym (q .answer)) ∙ sym (y .told .told),
+      λ i. (tt, (tt, (tt, (tt, ((p .memory-after ∙ sym (q .memory-after)) i, ((p .output-after ∙ sym (q .output-after)) i, tt)))))),
+    )

@@ -2,13 +2,11 @@
 -- Assumes nothing.
 use Prim.Native.Nat.{ℕ}
 use mathlib.Core.Path.{_≡_}
-use mathlib.Core.Logic.{_⊎_}
 use mathlib.Core.List.{List}
 use Rattle.rule.specs.Drawing.{stateNo, eventNo}
 use Rattle.rule.specs.Operations.{markOf}
-use Rattle.rule.specs.Refusals.{toldOf, Numbered}
-use Rattle.rule.specs.declared.Refusal.{Refusal}
-use Rattle.rule.specs.declared.Refusal.the-variants.{Room}
+use Rattle.rule.specs.Refusals.{tell, toldOf}
+use Rattle.rule.specs.declared.Told.{Told}
 use Rattle.rule.specs.declared.Verdict.{Verdict}
 use Rattle.rule.specs.declared.Verdict.the-variants.{Sound, Refused as Unsound}
 use Rattle.rulefile.specs.declared.Written.{Written}
@@ -66,21 +64,29 @@ pub record EventForC (sheet : List ℕ) (state held event : ℕ) (memory output 
   pub promise : EventPromise sheet (runOf state held) (eventNo event) memory output answer memory′ output′
   pub told : r ≡ answeredOf answer (runOf state held)
 
--- what a refused call leaves: the output as it was and nothing written, refused by a number of the table
+-- the number and the places of an answer
+abbrev pub madeTold : Made → Told
+madeTold r = tell (r .refusal) (r .a) (r .b)
+
+abbrev pub startedTold : Started → Told
+startedTold r = tell (r .refusal) (r .a) (r .b)
+
+abbrev pub answeredTold : Answered → Told
+answeredTold r = tell (r .refusal) (r .a) (r .b)
+
+-- what a refused call leaves: the output as it was and nothing written; state 0 with nothing held; the memory, the output and the run state as they were
 pub record MakeKept (out : List ℕ) (r : Made) (out′ : List ℕ) : Type 0 where
   pub output-kept : out′ ≡ out
   pub written : r .written ≡ 0
-  pub cause : Refusal
-  pub told : r .refusal ≡ toldOf cause .number
-  pub number : Numbered 1 10 cause ⊎ (cause ≡ Room)
 
--- a refused event leaves the memory, the output and the run state as they were
+pub record FreshKept (r : Started) : Type 0 where
+  pub state : r .state ≡ 0
+  pub held : r .held ≡ 0
+
 pub record EventKept (state held : ℕ) (memory output : List ℕ) (r : Answered) (memory′ output′ : List ℕ) : Type 0 where
   pub memory-kept : memory′ ≡ memory
   pub output-kept : output′ ≡ output
   pub state-kept : r .state ≡ state
   pub held-kept : r .held ≡ held
+  pub operation : r .operation ≡ 0
   pub released : r .released ≡ 0
-  pub cause : Refusal
-  pub told : r .refusal ≡ toldOf cause .number
-  pub number : Numbered 11 16 cause

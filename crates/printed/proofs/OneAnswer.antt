@@ -1,11 +1,7 @@
--- One answer: any two results that the promise of printing allows are equal.
--- Assumes nothing.
-use mathlib.Core.Path.{_≡_, sym, _∙_}
-use mathlib.Core.List.{List}
-use Prim.Native.Nat.{ℕ}
-use Rattle.rulefile.specs.declared.Written.{Written}
-use Rattle.printed.specs.Printing.{PrintPromise}
+-- Any two calls with the same arguments that the contract of a function of this crate allows are equal. Assumes nothing.
+use mathlib.Core.Path.{sym, _∙_}
+use Rattle.contracts.specs.Contract.{OneAnswer}
+use Rattle.printed.proofs
 
-pub print-one-answer : {f out : List ℕ} {v w : Written} {out₁ out₂ : List ℕ} → PrintPromise f out v out₁ → PrintPromise f out w out₂
-    → (v ≡ w) × (out₁ ≡ out₂)
-print-one-answer p q = (p .answer ∙ sym (q .answer), p .output ∙ sym (q .output))
+pub print-one-answer : OneAnswer proofs.print.ended proofs.print.Reads.Learnt
+print-one-answer κs a x y = (x .told .answer ∙ sym (y .told .answer), λ i. (tt, ((x .told .output ∙ sym (y .told .output)) i, tt)))

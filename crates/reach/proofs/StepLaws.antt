@@ -14,16 +14,20 @@ use lib.Pow.{shr-shr, shr-le}
 use mir.Syntax.{w8}
 use mir.Val.{Fits}
 use Rattle.rule.specs.Sets.{has, including}
-use Rattle.rule.specs.Reach.{target, withMoves, movedBelow, movedSet, spread, reachedWithin}
+use Rattle.rule.specs.Reach.{placeOf, target, withMoves, movedBelow, movedSet, spread, reachedWithin}
 use Rattle.rule.proofs.SetLaws.{has-none, has-past, has-shifted, lowest-in, lowest-first, below-or}
 use Rattle.rule.proofs.MoveLaws.{moved-fresh}
 use Rattle.rule.proofs.BoolLaws.{clash}
 
 module _ (table : List ℕ) (k : ℕ) where
   -- past the table every move leads to state 0
-  pub target-past : (s e : ℕ) → length table ≤ s * k + e → 0 ≡ target table k s e
+  -- the cell at a place, in the table and past it
+  pub target-at : (s e i : ℕ) → i ≡ placeOf k s e → getD table i 0 ≡ target table k s e
   unfolding target
-  target-past s e h = sym (List·getD-eq-default table 0 h)
+  target-at s e i q = rw q
+
+  pub target-past : (s e i : ℕ) → i ≡ placeOf k s e → length table ≤ i → 0 ≡ target table k s e
+  target-past s e i q h = sym (List·getD-eq-default table 0 h) ∙ target-at s e i q
 
   pub moves-none : (s x : ℕ) → x ≡ withMoves table k s x 0
   unfolding withMoves
@@ -33,10 +37,9 @@ module _ (table : List ℕ) (k : ℕ) where
   unfolding withMoves
   moves-more s x e out t r io it ir = rw add-one (cc)
 
-  -- the same of a cell that is read, in a row by its place
-  pub moves-read : (s x e out row r : ℕ) → out ≡ withMoves table k s x e → row ≡ s * k → r ≡ including out (getD table (row + e) 0) → r ≡ withMoves table k s x (e + 1)
-  unfolding target
-  moves-read s x e out row r io q ir = moves-more s x e out (getD table (row + e) 0) r io (rw q) ir
+  -- the same of a cell that is read at its place
+  pub moves-read : (s x e out i r : ℕ) → out ≡ withMoves table k s x e → i ≡ placeOf k s e → r ≡ including out (getD table i 0) → r ≡ withMoves table k s x (e + 1)
+  moves-read s x e out i r io q ir = moves-more s x e out (getD table i 0) r io (target-at s e i q) ir
 
   -- all events of a row
   pub moves-all : (s x e out : ℕ) → e ≤ k → k ≤ e → out ≡ withMoves table k s x e → out ≡ withMoves table k s x k

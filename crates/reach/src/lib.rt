@@ -7,13 +7,15 @@ pub mod sets;
 
 use crate::sets::insert;
 use rule::EventNo;
+use rule::Rule;
 use rule::StateNo;
+use rule::place;
 
 // The state to which event e leads from state s, by a table of so many events a row; state 0 past the table.
 pub fn next(table: &[u8], events: u8, s: StateNo, e: EventNo) -> StateNo
     ensures { λ r. ⌜ r .0 ≡ target (now (table .entry)) events (s .0) (e .0) ⌝ }
 {
-    let i = (s.0 as usize) * (events as usize) + (e.0 as usize);
+    let i = place(events, s, e);
     if i < table.len() {
         StateNo(table[i])
     } else {
@@ -25,12 +27,10 @@ pub fn next(table: &[u8], events: u8, s: StateNo, e: EventNo) -> StateNo
 fn with_moves(table: &[u8], events: u8, s: StateNo, set: u64) -> u64
     ensures { λ r. ⌜ r ≡ withMoves (now (table .entry)) events (s .0) set events ⌝ }
 {
-    let row = (s.0 as usize) * (events as usize);
-    let end = row + (events as usize);
     let mut out = set;
-    if end <= table.len() {
+    if place(events, s, EventNo(events)) <= table.len() {
         for e in 0..events {
-            out = insert(out, StateNo(table[row + (e as usize)]));
+            out = insert(out, StateNo(table[place(events, s, EventNo(e))]));
         }
     } else {
         for e in 0..events {
@@ -99,7 +99,7 @@ pub fn reached_sets(table: &[u8], states: u8, events: u8, mut sets: [u64; 64]) -
 {
     for s in 0..states {
         let at = s as usize;
-        if at < 64 {
+        if s < Rule::STATES {
             sets[at] = reached(table, states, events, StateNo(s));
         }
     }

@@ -1,9 +1,7 @@
--- Any two results that the promise of `read` allows are equal. Assumes nothing.
-use mathlib.Core.Path.{_≡_, sym, _∙_}
-use mathlib.Core.List.{List}
-use Prim.Native.Nat.{ℕ}
-use Rattle.rulefile.specs.Reading.{readingOf}
-use Rattle.rulefile.specs.declared.Reading.{Reading}
+-- Any two calls with the same arguments that the contract of a function of this crate allows are equal. Assumes nothing.
+use mathlib.Core.Path.{refl, sym, _∙_}
+use Rattle.contracts.specs.Contract.{OneAnswer}
+use Rattle.reading.proofs
 
-pub read-one-answer : (f : List ℕ) {a b : Reading} → a ≡ readingOf f → b ≡ readingOf f → a ≡ b
-read-one-answer f p q = p ∙ sym q
+pub read-one-answer : OneAnswer proofs.read.ended proofs.read.Reads.Learnt
+read-one-answer κs a x y = (x .told ∙ sym (y .told), refl)

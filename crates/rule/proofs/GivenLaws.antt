@@ -2,7 +2,7 @@
 -- its places exactly when those are the first. Assumes nothing.
 use Prim.Native.Nat.{ℕ, _≤_, _<_}
 use native.Mathlib.Omega.{arith}
-use mathlib.Core.Path.{_≡_, refl, ap}
+use mathlib.Core.Path.{_≡_, refl, ap, _∙_}
 use mathlib.Core.Bool.{Bool, true, _&&_}
 use mathlib.Core.Logic.{_⊎_, inl, inr, ⊎-elim, _↔_}
 use lib.ListN.{length}
@@ -15,8 +15,10 @@ use Rattle.rule.specs.Operations.{reachOf}
 use Rattle.rule.specs.Stopping.{stopsBy}
 use Rattle.rule.specs.Classes.{movesInto, movesOut, forbids, forbidsSome}
 use Rattle.rule.specs.Published.{In, Out}
-use Rattle.rule.specs.Refusals.{refuseIf, firstBelow, firstCell, toldOf, entries, memberAt, members, exceeds, excess, moves, stopped, empties, firstOf, conditions}
-use Rattle.rule.specs.Given.{FirstCell, LowestPair, NoCell, NoPair, BadEntry, Names, BadPair, BadSide, by-R, only-P, BadMember, TooMuch, with-R, with-P, Forbidden, into-P, out-of-R, StopsBy, BothEmpty}
+use Rattle.rule.specs.Refusals.{refuseIf, firstBelow, firstCell, entries, memberAt, members, exceeds, excess, moves, stopped, empties, firstOf}
+use Rattle.rule.specs.Refusals.{conditions}
+use Rattle.rule.specs.Given.{FirstCell, LowestPair, NoCell, NoPair, BadEntry, Names, BadPair, BadSide, by-R, only-P, BadMember, TooMuch, with-R}
+use Rattle.rule.specs.Given.{with-P, Forbidden, into-P, out-of-R, StopsBy, BothEmpty}
 use Rattle.rule.specs.declared.Pair.{Pair}
 use Rattle.rule.specs.declared.Refusal.{Refusal}
 use Rattle.rule.specs.declared.Refusal.the-variants.{Entry, Member, Excess, Move, Stopping, Empty}
@@ -26,7 +28,8 @@ use Rattle.rule.proofs.BoolLaws.{clash, not-so, Says, itself, eq-says, 
 use Rattle.rule.proofs.SetLaws.{below-or, true-or, names-iff}
 use Rattle.rule.proofs.PairLaws.{Some, some-says}
 use Rattle.rule.proofs.StoppingLaws.{stops-says}
-use Rattle.rule.proofs.RefusalLaws.{sound-or, refuse-sound, refuse-refused, else-sound, below-sound-iff, below-refused-iff, cells-sound-iff, cells-refused-iff, first-sound}
+use Rattle.rule.proofs.RefusalLaws.{sound-or, refuse-sound, refuse-refused, else-sound, below-sound-iff, below-refused-iff, cells-sound-iff}
+use Rattle.rule.proofs.RefusalLaws.{cells-refused-iff, first-sound}
 
 -- a verdict that refuses exactly where there is the fault
 record Judges (v : Verdict) (Fault : Type 0) : Type 0 where
@@ -50,27 +53,21 @@ module _ (d : Drawing) (f : ℕ → Verdict) (Fault : ℕ → Type 0) (judges : 
     λ n. below-sound-iff f (count d) .1 (λ i h. sound-of (f i) (judges i h) (n i h)),
   )
 
-  -- where r names the place
-  pairs-refused : (r : Refusal) (i : ℕ) → ((j : ℕ) → f j ≡ Refused r → j ≡ i)
-      → (firstBelow f (count d) ≡ Refused r) ↔ (LowestPair d Fault i × (f i ≡ Refused r))
-  pairs-refused r i place = (
+  -- and the refusal is that of the lowest
+  pairs-refused : (r : Refusal) → (firstBelow f (count d) ≡ Refused r) ↔ ((i : ℕ) × (f i ≡ Refused r) × LowestPair d Fault i)
+  pairs-refused r = (
     λ p.
         let g = below-refused-iff f (count d) r .0 p in
-        let here = place (g .at) (g .refused) in
-        let used : i < count d = omega arith in
-        let hit : f i ≡ Refused r = rw here at (g .refused) in (
-          record {
-            used = used;
-            fault = judges i used .hits r hit;
-            lower = λ j h. judges j (omega arith) .clears (g .earlier j (omega arith));
-          },
-          hit,
+        let used = g .below in (
+          g .at,
+          g .refused,
+          record { used = used; fault = judges (g .at) used .hits r (g .refused); lower = λ j h. judges j (omega arith) .clears (g .earlier j h) },
         ),
     λ p. below-refused-iff f (count d) r .1 (record {
-      at = i;
-      below = p .0 .used;
+      at = p .0;
+      below = p .2 .used;
       refused = p .1;
-      earlier = λ j h. sound-of (f j) (judges j (omega arith)) (p .0 .lower j h);
+      earlier = λ j h. sound-of (f j) (judges j (omega (arith, p .2 .used))) (p .2 .lower j h);
     }),
   )
 
@@ -83,55 +80,52 @@ module _ (d : Drawing) (f : ℕ → ℕ → Verdict) (Fault : ℕ → ℕ → Ty
     λ n. cells-sound-iff f (events d) (states d) .1 (λ s e hs he. sound-of (f s e) (judges s e hs he) (n s e hs he)),
   )
 
-  -- where r names the place
-  cell-refused : (r : Refusal) (s e : ℕ) → ((s′ e′ : ℕ) → f s′ e′ ≡ Refused r → (s′ ≡ s) × (e′ ≡ e))
-      → (firstCell f (states d) (events d) ≡ Refused r) ↔ (FirstCell d Fault s e × (f s e ≡ Refused r))
-  cell-refused r s e place = (
+  -- and the refusal is that of the first
+  cell-refused : (r : Refusal) → (firstCell f (states d) (events d) ≡ Refused r) ↔ ((s e : ℕ) × (f s e ≡ Refused r) × FirstCell d Fault s e)
+  cell-refused r = (
     λ p.
         let g = cells-refused-iff f (events d) (states d) r .0 p in
-        let here = place (g .state) (g .event) (g .refused) in
-        let hs : s < states d = omega arith in
-        let he : e < events d = omega arith in
-        let hit : f s e ≡ Refused r = rw (here .0, here .1) at (g .refused) in
-        let rows : (s′ e′ : ℕ) → s′ < s → e′ < events d → f s′ e′ ≡ Sound = rw (here .0) at (g .rows-before) in
-        let cells : (e′ : ℕ) → e′ < e → f s e′ ≡ Sound = rw (here .0, here .1) at (g .cells-before) in (
+        let hs = g .state-in in
+        let he = g .event-in in (
+          g .state,
+          g .event,
+          g .refused,
           record {
             state-in = hs;
             event-in = he;
-            fault = judges s e hs he .hits r hit;
-            rows-before = λ s′ e′ h h′. judges s′ e′ (omega arith) h′ .clears (rows s′ e′ h h′);
-            cells-before = λ e′ h. judges s e′ hs (omega arith) .clears (cells e′ h);
+            fault = judges (g .state) (g .event) hs he .hits r (g .refused);
+            rows-before = λ s′ e′ h h′. judges s′ e′ (omega arith) h′ .clears (g .rows-before s′ e′ h h′);
+            cells-before = λ e′ h. judges (g .state) e′ hs (omega arith) .clears (g .cells-before e′ h);
           },
-          hit,
         ),
     λ p. cells-refused-iff f (events d) (states d) r .1 (record {
-      state = s;
-      event = e;
-      state-in = p .0 .state-in;
-      event-in = p .0 .event-in;
-      refused = p .1;
-      rows-before = λ s′ e′ h h′. sound-of (f s′ e′) (judges s′ e′ (omega (arith, p .0 .state-in)) h′) (p .0 .rows-before s′ e′ h h′);
-      cells-before = λ e′ h. sound-of (f s e′) (judges s e′ (p .0 .state-in) (omega (arith, p .0 .event-in))) (p .0 .cells-before e′ h);
+      state = p .0;
+      event = p .1;
+      state-in = p .3 .state-in;
+      event-in = p .3 .event-in;
+      refused = p .2;
+      rows-before = λ s′ e′ h h′. sound-of (f s′ e′) (judges s′ e′ (omega (arith, p .3 .state-in)) h′) (p .3 .rows-before s′ e′ h h′);
+      cells-before = λ e′ h. sound-of (f (p .0) e′) (judges (p .0) e′ (p .3 .state-in) (omega (arith, p .3 .event-in))) (p .3 .cells-before e′ h);
     }),
   )
 
 -- where a test decides and the refusal names the place
-module _ (d : Drawing) (test : ℕ → Bool) (name : ℕ → Refusal) (Fault : ℕ → Type 0)
-    (differ : (i j : ℕ) → name i ≡ name j → i ≡ j) (says : (i : ℕ) → i < count d → (test i ≡ true) ↔ Fault i) where
+module _ (d : Drawing) (test : ℕ → Bool) (name : ℕ → Refusal) (Fault : ℕ → Type 0) (says : (i : ℕ) → i < count d → (test i ≡ true) ↔ Fault i) where
   tested : (i : ℕ) → i < count d → Judges (refuseIf (test i) (name i)) (Fault i)
   tested i h = by-test (test i) (name i) (says i h)
 
   pair-tests-sound : (firstBelow (λ i. refuseIf (test i) (name i)) (count d) ≡ Sound) ↔ NoPair d Fault
   pair-tests-sound = pairs-sound d (λ i. refuseIf (test i) (name i)) Fault tested
 
-  pair-tests-refused : (i : ℕ) → (firstBelow (λ i. refuseIf (test i) (name i)) (count d) ≡ Refused (name i)) ↔ LowestPair d Fault i
-  pair-tests-refused i =
-      let g = pairs-refused d (λ i. refuseIf (test i) (name i)) Fault tested (name i) i
-      (λ j p. differ j i (refuse-refused (test j) (name j) (name i) .0 p .1)) in
-      (λ p. g .0 p .0, λ l. g .1 (l, refuse-refused (test i) (name i) (name i) .1 (says i (l .used) .1 (l .fault), refl)))
+  pair-tests-refused : (r : Refusal)
+      → (firstBelow (λ i. refuseIf (test i) (name i)) (count d) ≡ Refused r) ↔ ((i : ℕ) × (name i ≡ r) × LowestPair d Fault i)
+  pair-tests-refused r =
+      let g = pairs-refused d (λ i. refuseIf (test i) (name i)) Fault tested r in (
+        λ p. let l = g .0 p in (l .0, refuse-refused (test (l .0)) (name (l .0)) r .0 (l .1) .1, l .2),
+        λ l. g .1 (l .0, refuse-refused (test (l .0)) (name (l .0)) r .1 (says (l .0) (l .2 .used) .1 (l .2 .fault), l .1), l .2),
+      )
 
 module _ (d : Drawing) (test : ℕ → ℕ → Bool) (name : ℕ → ℕ → Refusal) (Fault : ℕ → ℕ → Type 0)
-    (differ : (s e s′ e′ : ℕ) → name s e ≡ name s′ e′ → (s ≡ s′) × (e ≡ e′))
     (says : (s e : ℕ) → s < states d → e < events d → (test s e ≡ true) ↔ Fault s e) where
   cell-tested : (s e : ℕ) → s < states d → e < events d → Judges (refuseIf (test s e) (name s e)) (Fault s e)
   cell-tested s e hs he = by-test (test s e) (name s e) (says s e hs he)
@@ -139,12 +133,17 @@ module _ (d : Drawing) (test : ℕ → ℕ → Bool) (name : ℕ → ℕ → Ref
   cell-tests-sound : (firstCell (λ s e. refuseIf (test s e) (name s e)) (states d) (events d) ≡ Sound) ↔ NoCell d Fault
   cell-tests-sound = all-cells-sound d (λ s e. refuseIf (test s e) (name s e)) Fault cell-tested
 
-  cell-tests-refused : (s e : ℕ) → (firstCell (λ s e. refuseIf (test s e) (name s e)) (states d) (events d) ≡ Refused (name s e)) ↔ FirstCell d Fault s e
-  cell-tests-refused s e =
-      let g = cell-refused d (λ s e. refuseIf (test s e) (name s e)) Fault cell-tested (name s e) s e
-      (λ s′ e′ p. differ s′ e′ s e (refuse-refused (test s′ e′) (name s′ e′) (name s e) .0 p .1)) in (
-        λ p. g .0 p .0,
-        λ l. g .1 (l, refuse-refused (test s e) (name s e) (name s e) .1 (says s e (l .state-in) (l .event-in) .1 (l .fault), refl)),
+  cell-tests-refused : (r : Refusal) → (firstCell (λ s e. refuseIf (test s e) (name s e)) (states d) (events d) ≡ Refused r)
+      ↔ ((s e : ℕ) × (name s e ≡ r) × FirstCell d Fault s e)
+  cell-tests-refused r =
+      let g = cell-refused d (λ s e. refuseIf (test s e) (name s e)) Fault cell-tested r in (
+        λ p. let l = g .0 p in (l .0, l .1, refuse-refused (test (l .0) (l .1)) (name (l .0) (l .1)) r .0 (l .2) .1, l .3),
+        λ l. g .1 (
+          l .0,
+          l .1,
+          refuse-refused (test (l .0) (l .1)) (name (l .0) (l .1)) r .1 (says (l .0) (l .1) (l .3 .state-in) (l .3 .event-in) .1 (l .3 .fault), l .2),
+          l .3,
+        ),
       )
 
 -- 5
@@ -158,12 +157,9 @@ entry-says d s e = (leb-true (states d) (next d s e), le-leb (states d) (next d 
 abbrev entryName : ℕ → ℕ → Refusal
 entryName s e = Entry (stateNo s) (eventNo e)
 
-entry-differ : (s e s′ e′ : ℕ) → entryName s e ≡ entryName s′ e′ → (s ≡ s′) × (e ≡ e′)
-entry-differ s e s′ e′ p = (ap (λ r. toldOf r .a) p, ap (λ r. toldOf r .b) p)
-
 no-bad-entry : (d : Drawing) → (entries d ≡ Sound) ↔ NoCell d (BadEntry d)
 unfolding entries
-no-bad-entry d = cell-tests-sound d (entryTest d) entryName (BadEntry d) entry-differ (λ s e hs he. entry-says d s e)
+no-bad-entry d = cell-tests-sound d (entryTest d) entryName (BadEntry d) (λ s e hs he. entry-says d s e)
 
 pub entries-sound : (d : Drawing) → (entries d ≡ Sound) ↔ Closed (d .table) (states d) (events d)
 entries-sound d = (
@@ -171,9 +167,9 @@ entries-sound d = (
   λ c. no-bad-entry d .1 (λ s e hs he b. omega (arith, c s e hs he)),
 )
 
-pub entries-refused : (d : Drawing) (s e : ℕ) → (entries d ≡ Refused (Entry (stateNo s) (eventNo e))) ↔ FirstCell d (BadEntry d) s e
+pub entries-refused : (d : Drawing) (x : Refusal) → (entries d ≡ Refused x) ↔ ((s e : ℕ) × (entryName s e ≡ x) × FirstCell d (BadEntry d) s e)
 unfolding entries
-entries-refused d s e = cell-tests-refused d (entryTest d) entryName (BadEntry d) entry-differ (λ s e hs he. entry-says d s e) s e
+entries-refused d = cell-tests-refused d (entryTest d) entryName (BadEntry d) (λ s e hs he. entry-says d s e)
 
 -- 6
 
@@ -190,19 +186,13 @@ module _ (d : Drawing) (i : ℕ) where
   abbrev pastP : Bool
   pastP = namesPast (states d) (pairAt d i .p)
 
-  member-by : (j side : ℕ) → memberAt d i ≡ Refused (Member j side) → (i ≡ j) × BadSide d i side
-  member-by j side p =
+  member-by : (x : Refusal) → memberAt d i ≡ Refused x → (side : ℕ) × (Member i side ≡ x) × BadSide d i side
+  member-by x p =
       true-or pastR
+      (λ a. let q : Refused (Member i 0) ≡ Refused x = rw a at p in (0, cc, by-R (names-says (states d) (pairAt d i .r) .0 a)))
       (λ a.
-      let q : Refused (Member i 0) ≡ Refused (Member j side) = rw a at p in
-      let z : 0 ≡ side = cc in
-      (cc, rw (← z) (by-R (names-says (states d) (pairAt d i .r) .0 a))))
-      (λ a.
-      let t = refuse-refused pastP (Member i 1) (Member j side) .0 (rw a at p) in
-      let z : 1 ≡ side = ap (λ r. toldOf r .b) (t .1) in (
-        ap (λ r. toldOf r .a) (t .1),
-        rw (← z) (only-P (λ n. clash (names-says (states d) (pairAt d i .r) .1 n) a) (names-says (states d) (pairAt d i .p) .0 (t .0))),
-      ))
+      let t = refuse-refused pastP (Member i 1) x .0 (rw a at p) in
+      (1, t .1, only-P (λ n. clash (names-says (states d) (pairAt d i .r) .1 n) a) (names-says (states d) (pairAt d i .p) .0 (t .0))))
 
   of-side : {side : ℕ} → BadSide d i side → memberAt d i ≡ Refused (Member i side)
   of-side (by-R n) = rw (names-says (states d) (pairAt d i .r) .1 n)
@@ -226,12 +216,12 @@ pub members-sound : (d : Drawing) → (members d ≡ Sound) ↔ NoPair d (BadPai
 unfolding members
 members-sound d = pairs-sound d (memberAt d) (BadPair d) (λ i h. member-judges d i)
 
-pub members-refused : (d : Drawing) (i side : ℕ) → (members d ≡ Refused (Member i side)) ↔ BadMember d i side
+pub members-refused : (d : Drawing) (x : Refusal) → (members d ≡ Refused x) ↔ ((i side : ℕ) × (Member i side ≡ x) × BadMember d i side)
 unfolding members
-members-refused d i side =
-    let g = pairs-refused d (memberAt d) (BadPair d) (λ i h. member-judges d i) (Member i side) i (λ j p. member-by d j i side p .0) in (
-      λ p. let l = g .0 p in record { lowest = l .0; by-side = member-by d i i side (l .1) .1 },
-      λ b. g .1 (b .lowest, of-side d i (b .by-side)),
+members-refused d x =
+    let g = pairs-refused d (memberAt d) (BadPair d) (λ i h. member-judges d i) x in (
+      λ p. let l = g .0 p in let b = member-by d (l .0) x (l .1) in (l .0, b .0, b .1, record { lowest = l .2; by-side = b .2 }),
+      λ b. g .1 (b .0, of-side d (b .0) (b .3 .by-side) ∙ ap Refused (b .2), b .3 .lowest),
     )
 
 -- 7
@@ -257,11 +247,11 @@ excess-sound d = (
   λ n. refuse-sound (exceeds d) Excess .1 (not-so (exceeds d) (λ p. n (exceeds-says d .0 p))),
 )
 
-pub excess-refused : (d : Drawing) → (excess d ≡ Refused Excess) ↔ TooMuch d
+pub excess-refused : (d : Drawing) (x : Refusal) → (excess d ≡ Refused x) ↔ ((Excess ≡ x) × TooMuch d)
 unfolding excess
-excess-refused d = (
-  λ p. exceeds-says d .0 (refuse-refused (exceeds d) Excess Excess .0 p .0),
-  λ t. refuse-refused (exceeds d) Excess Excess .1 (exceeds-says d .1 t, refl),
+excess-refused d x = (
+  λ p. let g = refuse-refused (exceeds d) Excess x .0 p in (g .1, exceeds-says d .0 (g .0)),
+  λ t. refuse-refused (exceeds d) Excess x .1 (exceeds-says d .1 (t .1), t .0),
 )
 
 -- 8
@@ -294,9 +284,6 @@ moveTest d s e = forbidsSome (d .shape .class) (d .pairs) s (next d s e)
 abbrev moveName : ℕ → ℕ → Refusal
 moveName s e = Move (stateNo s) (eventNo e)
 
-move-differ : (s e s′ e′ : ℕ) → moveName s e ≡ moveName s′ e′ → (s ≡ s′) × (e ≡ e′)
-move-differ s e s′ e′ p = (ap (λ r. toldOf r .a) p, ap (λ r. toldOf r .b) p)
-
 module _ (d : Drawing) (whole : length (d .pairs) ≡ count d) where
   forbidden-says : (s e : ℕ) → Says (moveTest d s e) (Forbidden d s e)
   unfolding forbidsSome
@@ -318,14 +305,14 @@ module _ (d : Drawing) (whole : length (d .pairs) ≡ count d) where
   pub moves-sound : (moves d ≡ Sound) ↔ NoCell d (Forbidden d)
   unfolding moves
   moves-sound =
-      cell-tests-sound d (moveTest d) moveName (Forbidden d) move-differ
+      cell-tests-sound d (moveTest d) moveName (Forbidden d)
       (λ s e hs he. forbidden-says s e)
 
-  pub moves-refused : (s e : ℕ) → (moves d ≡ Refused (Move (stateNo s) (eventNo e))) ↔ FirstCell d (Forbidden d) s e
+  pub moves-refused : (x : Refusal) → (moves d ≡ Refused x) ↔ ((s e : ℕ) × (moveName s e ≡ x) × FirstCell d (Forbidden d) s e)
   unfolding moves
-  moves-refused s e =
-      cell-tests-refused d (moveTest d) moveName (Forbidden d) move-differ
-      (λ s e hs he. forbidden-says s e) s e
+  moves-refused =
+      cell-tests-refused d (moveTest d) moveName (Forbidden d)
+      (λ s e hs he. forbidden-says s e)
 
 -- 9
 
@@ -343,13 +330,13 @@ module _ (d : Drawing) (closed : Closed (d .table) (states d) (events d)) (small
   unfolding stopped
   stopped-sound =
       pair-tests-sound d (stopTest d) Stopping (StopsBy d (initial d))
-      (λ i j p. ap (λ r. toldOf r .a) p) (λ i h. stop-says i)
+      (λ i h. stop-says i)
 
-  pub stopped-refused : (i : ℕ) → (stopped d ≡ Refused (Stopping i)) ↔ LowestPair d (StopsBy d (initial d)) i
+  pub stopped-refused : (x : Refusal) → (stopped d ≡ Refused x) ↔ ((i : ℕ) × (Stopping i ≡ x) × LowestPair d (StopsBy d (initial d)) i)
   unfolding stopped
-  stopped-refused i =
+  stopped-refused =
       pair-tests-refused d (stopTest d) Stopping (StopsBy d (initial d))
-      (λ i j p. ap (λ r. toldOf r .a) p) (λ i h. stop-says i) i
+      (λ i h. stop-says i)
 
 -- 10
 
@@ -368,13 +355,13 @@ module _ (d : Drawing) where
   unfolding empties
   empties-sound =
       pair-tests-sound d (emptyTest d) Empty (BothEmpty d)
-      (λ i j p. ap (λ r. toldOf r .a) p) (λ i h. empty-says i)
+      (λ i h. empty-says i)
 
-  pub empties-refused : (i : ℕ) → (empties d ≡ Refused (Empty i)) ↔ LowestPair d (BothEmpty d) i
+  pub empties-refused : (x : Refusal) → (empties d ≡ Refused x) ↔ ((i : ℕ) × (Empty i ≡ x) × LowestPair d (BothEmpty d) i)
   unfolding empties
-  empties-refused i =
+  empties-refused =
       pair-tests-refused d (emptyTest d) Empty (BothEmpty d)
-      (λ i j p. ap (λ r. toldOf r .a) p) (λ i h. empty-says i) i
+      (λ i h. empty-says i)
 
 -- each condition by itself is sound
 pub conditions-sound : (d : Drawing) → firstOf (conditions d) ≡ Sound

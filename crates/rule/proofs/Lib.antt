@@ -13,6 +13,7 @@ pub mod BoolLaws
 pub mod RefusalLaws
 pub mod GivenLaws
 pub mod NumberLaws
+pub mod TableLaws
 -- operations, stopping states and classes
 pub mod PairLaws
 pub mod OrderLaws

@@ -1,97 +1,116 @@
--- Which numbers the conditions of a drawing give: 5 to 10, each its own.
+-- Which numbers a verdict gives; the conditions of a drawing give 5 to 10, each its own.
 -- Assumes nothing.
-use Prim.Native.Nat.{ℕ, zero, suc, _≤_}
-use native.Mathlib.Omega.{arith}
-use mathlib.Core.Path.{_≡_}
+use Prim.Native.Nat.{ℕ, zero, suc}
+use mathlib.Core.Path.{_≡_, refl}
 use mathlib.Core.Bool.{Bool, true, false, _&&_}
-use mathlib.Core.List.{List, [], _∷_}
+use mathlib.Core.List.{List, [], _∷_, _++_}
+use mathlib.Core.Logic.{_⊎_, inl, inr, ⊎-elim}
 use lib.Dec.{leb}
+use borrow.Author.Tests.{eq-eqb}
 use Rattle.rule.specs.Sets.{isEmpty, namesPast}
 use Rattle.rule.specs.Drawing.{Drawing, stateNo, eventNo, states, initial, next, pairAt}
 use Rattle.rule.specs.Operations.{reachOf}
 use Rattle.rule.specs.Stopping.{stopsBy}
 use Rattle.rule.specs.Classes.{forbidsSome}
-use Rattle.rule.specs.Refusals.{Numbered, refuseIf, orElse, firstOf, firstBelow, firstCell, entries, members, exceeds, excess, moves, stopped, empties, conditions}
+use Rattle.rule.specs.Refusals.{toldOf, among, Numbered, refuseIf, orElse, firstOf, firstBelow, firstCell, entries, members, exceeds, excess}
+use Rattle.rule.specs.Refusals.{moves, stopped, empties, conditions, conditionsOrder}
 use Rattle.rule.specs.declared.Refusal.{Refusal}
 use Rattle.rule.specs.declared.Refusal.the-variants.{Entry, Member, Excess, Move, Stopping, Empty}
 use Rattle.rule.specs.declared.Verdict.{Verdict}
 use Rattle.rule.specs.declared.Verdict.the-variants.{Sound, Refused}
+use Rattle.rule.proofs.BoolLaws.{Says, clash, eq-says, or-says, itself}
+use Rattle.rule.proofs.RefusalLaws.{not-both, refuse-refused}
 
--- whatever the verdict refuses has such a number
-abbrev pub Gives : ℕ → ℕ → Verdict → Type 0
-Gives lo hi v = (r : Refusal) → v ≡ Refused r → Numbered lo hi r
+-- of the numbers in a list, and in two in a row
+pub among-says : (n m : ℕ) (l : List ℕ) → Says (among n (m ∷ l)) ((n ≡ m) ⊎ (among n l ≡ true))
+among-says n m l = or-says (eq-says n m) (itself (among n l))
 
-pub gives-wider : {lo hi lo′ hi′ : ℕ} {v : Verdict} → lo′ ≤ lo → hi ≤ hi′ → Gives lo hi v → Gives lo′ hi′ v
-gives-wider l h g r p = let n = g r p in record { low = omega arith; high = omega arith }
+pub first-among : (n : ℕ) (l : List ℕ) → among n (n ∷ l) ≡ true
+first-among n l = among-says n n l .1 (inl refl)
 
-pub sound-gives : {lo hi : ℕ} → Gives lo hi Sound
-sound-gives r p = absurd (let z : _≡_ {A = ℕ} 0 1 = cc in omega arith)
+pub among-either : (n : ℕ) (l m : List ℕ) → among n (l ++ m) ≡ true → (among n l ≡ true) ⊎ (among n m ≡ true)
+among-either n [] m p = inr p
+among-either n (k ∷ l) m p =
+    ⊎-elim (λ e. inl (among-says n k l .1 (inl e))) (λ q. ⊎-elim (λ r. inl (among-says n k l .1 (inr r))) inr (among-either n l m q))
+    (among-says n k (l ++ m) .0 p)
 
-pub refusal-gives : {lo hi : ℕ} (r : Refusal) → Numbered lo hi r → Gives lo hi (Refused r)
-refusal-gives {lo} {hi} r n s p = let e : r ≡ s = cc in rw e at n
+pub among-ahead : (n : ℕ) (l m : List ℕ) → among n l ≡ true → among n (l ++ m) ≡ true
+among-ahead n (k ∷ l) m p =
+    among-says n k (l ++ m) .1 (⊎-elim inl (λ q. inr (among-ahead n l m q)) (among-says n k l .0 p))
+among-ahead n [] m p = clash p refl
 
-pub refuse-gives : {lo hi : ℕ} (b : Bool) (r : Refusal) → Numbered lo hi r → Gives lo hi (refuseIf b r)
-refuse-gives true r n = refusal-gives r n
-refuse-gives false r n = sound-gives
+pub among-last : (n : ℕ) (l : List ℕ) → among n (l ++ (n ∷ [])) ≡ true
+among-last n [] = first-among n []
+among-last n (k ∷ l) = among-says n k (l ++ (n ∷ [])) .1 (inr (among-last n l))
 
-pub else-gives : {lo hi : ℕ} (v w : Verdict) → Gives lo hi v → Gives lo hi w → Gives lo hi (orElse v w)
+-- whatever the verdict refuses has one of these numbers
+abbrev pub Gives : List ℕ → Verdict → Type 0
+Gives numbers v = (r : Refusal) → v ≡ Refused r → Numbered numbers r
+
+pub sound-gives : {l : List ℕ} → Gives l Sound
+sound-gives r p = not-both refl p
+
+pub refuse-gives : {l : List ℕ} (b : Bool) (r : Refusal) → Numbered l r → Gives l (refuseIf b r)
+refuse-gives {l} b r n s p = let e = refuse-refused b r s .0 p .1 in rw e at n
+
+-- a condition that gives one number
+pub test-gives : {n : ℕ} (b : Bool) (r : Refusal) → toldOf r .number ≡ n → Gives (n ∷ []) (refuseIf b r)
+test-gives {n} b r e = refuse-gives b r (record { one-of = rw (eq-eqb (toldOf r .number) n e) })
+
+pub else-gives : {l : List ℕ} (v w : Verdict) → Gives l v → Gives l w → Gives l (orElse v w)
 else-gives Sound w g h = h
 else-gives (Refused r) w g h = g
 
-pub below-gives : {lo hi : ℕ} (f : ℕ → Verdict) (n : ℕ) → ((i : ℕ) → Gives lo hi (f i)) → Gives lo hi (firstBelow f n)
+pub below-gives : {l : List ℕ} (f : ℕ → Verdict) (n : ℕ) → ((i : ℕ) → Gives l (f i)) → Gives l (firstBelow f n)
 unfolding firstBelow
 below-gives f zero g = sound-gives
 below-gives f (suc n) g = else-gives (firstBelow f n) (f n) (below-gives f n g) (g n)
 
-pub cell-gives : {lo hi : ℕ} (f : ℕ → ℕ → Verdict) (n k : ℕ) → ((s e : ℕ) → Gives lo hi (f s e)) → Gives lo hi (firstCell f n k)
+pub cell-gives : {l : List ℕ} (f : ℕ → ℕ → Verdict) (n k : ℕ) → ((s e : ℕ) → Gives l (f s e)) → Gives l (firstCell f n k)
 unfolding firstCell
 cell-gives f n k g = below-gives (λ s. firstBelow (f s) k) n (λ s. below-gives (f s) k (g s))
 
--- every verdict of a list gives such numbers
-pub data All (lo hi : ℕ) : List Verdict → Type 0 where
-  end : All lo hi []
-  and : {v : Verdict} {vs : List Verdict} → Gives lo hi v → All lo hi vs → All lo hi (v ∷ vs)
+-- each verdict of a list gives its own number
+pub data Each : List ℕ → List Verdict → Type 0 where
+  end : Each [] []
+  and : {n : ℕ} {v : Verdict} {l : List ℕ} {vs : List Verdict} → Gives (n ∷ []) v → Each l vs → Each (n ∷ l) (v ∷ vs)
 
-pub first-gives : {lo hi : ℕ} {vs : List Verdict} → All lo hi vs → Gives lo hi (firstOf vs)
+-- and the first gives one of them
+pub first-gives : {l : List ℕ} {vs : List Verdict} → Each l vs → Gives l (firstOf vs)
 unfolding firstOf
 first-gives end = sound-gives
-first-gives (and {v = v} {vs = vs} g a) = else-gives v (firstOf vs) g (first-gives a)
+first-gives (and {n = n} {v = v} {l = l} {vs = vs} g e) =
+    else-gives v (firstOf vs)
+    (λ r p. record { one-of = among-ahead _ (n ∷ []) l (g r p .one-of) })
+    (λ r p. record { one-of = among-says _ n l .1 (inr (first-gives e r p .one-of)) })
 
 module _ (d : Drawing) where
-  pub entries-give : Gives 5 5 (entries d)
+  pub entries-give : Gives (5 ∷ []) (entries d)
   unfolding entries
-  entries-give = cell-gives _ _ _ (λ s e. refuse-gives (leb (states d) (next d s e)) (Entry (stateNo s) (eventNo e)) (omega arith))
+  entries-give = cell-gives _ _ _ (λ s e. test-gives (leb (states d) (next d s e)) (Entry (stateNo s) (eventNo e)) refl)
 
-  pub members-give : Gives 6 6 (members d)
+  pub members-give : Gives (6 ∷ []) (members d)
   unfolding members
-  members-give = below-gives _ _ (λ i. else-gives _ _ (refuse-gives (namesPast (states d) (pairAt d i .r)) (Member i 0) (omega arith)) (refuse-gives (namesPast (states d) (pairAt d i .p)) (Member i 1) (omega arith)))
+  members-give = below-gives _ _ (λ i. else-gives _ _
+      (test-gives (namesPast (states d) (pairAt d i .r)) (Member i 0) refl)
+      (test-gives (namesPast (states d) (pairAt d i .p)) (Member i 1) refl))
 
-  pub excess-gives : Gives 7 7 (excess d)
+  pub excess-gives : Gives (7 ∷ []) (excess d)
   unfolding excess
-  excess-gives = refuse-gives (exceeds d) Excess (omega arith)
+  excess-gives = test-gives (exceeds d) Excess refl
 
-  pub moves-give : Gives 8 8 (moves d)
+  pub moves-give : Gives (8 ∷ []) (moves d)
   unfolding moves
-  moves-give = cell-gives _ _ _ (λ s e. refuse-gives (forbidsSome (d .shape .class) (d .pairs) s (next d s e)) (Move (stateNo s) (eventNo e)) (omega arith))
+  moves-give = cell-gives _ _ _ (λ s e. test-gives (forbidsSome (d .shape .class) (d .pairs) s (next d s e)) (Move (stateNo s) (eventNo e)) refl)
 
-  pub stopped-gives : Gives 9 9 (stopped d)
+  pub stopped-gives : Gives (9 ∷ []) (stopped d)
   unfolding stopped
-  stopped-gives = below-gives _ _ (λ i. refuse-gives (stopsBy (pairAt d i) (reachOf d (initial d)) (initial d)) (Stopping i) (omega arith))
+  stopped-gives = below-gives _ _ (λ i. test-gives (stopsBy (pairAt d i) (reachOf d (initial d)) (initial d)) (Stopping i) refl)
 
-  pub empties-give : Gives 10 10 (empties d)
+  pub empties-give : Gives (10 ∷ []) (empties d)
   unfolding empties
-  empties-give = below-gives _ _ (λ i. refuse-gives (isEmpty (pairAt d i .r) && isEmpty (pairAt d i .p)) (Empty i) (omega arith))
+  empties-give = below-gives _ _ (λ i. test-gives (isEmpty (pairAt d i .r) && isEmpty (pairAt d i .p)) (Empty i) refl)
 
   -- the conditions 5 to 10 give 5 to 10
-  pub conditions-give : All 5 10 (conditions d)
-  conditions-give =
-      and (gives-wider (omega arith) (omega arith) entries-give)
-      (and (gives-wider (omega arith) (omega arith) members-give)
-      (and (gives-wider (omega arith) (omega arith) excess-gives)
-      (and (gives-wider (omega arith) (omega arith) moves-give)
-      (and (gives-wider (omega arith) (omega arith) stopped-gives)
-      (and (gives-wider (omega arith) (omega arith) empties-give) end)))))
-
-pub all-wider : {lo hi lo′ hi′ : ℕ} {vs : List Verdict} → lo′ ≤ lo → hi ≤ hi′ → All lo hi vs → All lo′ hi′ vs
-all-wider l h end = end
-all-wider l h (and g a) = and (gives-wider l h g) (all-wider l h a)
+  pub conditions-give : Each conditionsOrder (conditions d)
+  conditions-give = and entries-give (and members-give (and excess-gives (and moves-give (and stopped-gives (and empties-give end)))))

@@ -1,14 +1,13 @@
--- Any two results that the promise of a function of this crate allows are equal. Assumes nothing.
-use Prim.Native.Nat.{ℕ}
-use mathlib.Core.Path.{_≡_, sym, _∙_}
-use Rattle.rule.specs.Operations.{markOf}
-use Rattle.rule.specs.Refusals.{toldOf}
-use Rattle.rule.specs.declared.Operation.{Operation}
-use Rattle.rule.specs.declared.Refusal.{Refusal}
-use Rattle.rule.specs.declared.Told.{Told}
+-- Any two calls with the same arguments that the contract of a function of this crate allows are equal. Assumes nothing.
+use mathlib.Core.Path.{refl, sym, _∙_}
+use Rattle.contracts.specs.Contract.{OneAnswer}
+use Rattle.rule.proofs
 
-pub Operation-mark-one-answer : (self : Operation) {a b : ℕ} → a ≡ markOf self → b ≡ markOf self → a ≡ b
-Operation-mark-one-answer self p q = p ∙ sym q
+pub Operation-mark-one-answer : OneAnswer proofs.Operation.mark.ended proofs.Operation.mark.Reads.Learnt
+Operation-mark-one-answer κs a x y = (x .told ∙ sym (y .told), refl)
 
-pub Refusal-told-one-answer : (self : Refusal) {a b : Told} → a ≡ toldOf self → b ≡ toldOf self → a ≡ b
-Refusal-told-one-answer self ha hb = ha ∙ sym hb
+pub Refusal-told-one-answer : OneAnswer proofs.Refusal.told.ended proofs.Refusal.told.Reads.Learnt
+Refusal-told-one-answer κs a x y = (x .told ∙ sym (y .told), refl)
+
+pub place-one-answer : OneAnswer proofs.place.ended proofs.place.Reads.Learnt
+place-one-answer κs a x y = (x .told ∙ sym (y .told), refl)

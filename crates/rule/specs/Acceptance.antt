@@ -1,10 +1,11 @@
 -- Acceptance of a finite sequence of events.
 -- Assumes nothing.
 use Prim.Native.Nat.{ℕ}
+use mathlib.Core.Path.{_≡_}
 use mathlib.Core.Bool.{Bool, true, _&&_, _||_}
-use mathlib.Core.List.{List, [], _∷_}
+use mathlib.Core.List.{List, [], _∷_, _++_}
 use Rattle.rule.specs.Sets.{has}
-use Rattle.rule.specs.Reach.{after}
+use Rattle.rule.specs.Reach.{after, Events}
 use Rattle.rule.specs.Drawing.{Drawing, next, initial}
 use Rattle.rule.specs.declared.Pair.{Pair}
 
@@ -21,3 +22,7 @@ meetsAll (p ∷ ps) t = meetsPair p t && meetsAll ps t
 unfoldable pub accepts : Drawing → List ℕ → Bool
 accepts d [] = true
 accepts d (e ∷ w) = meetsAll (d .pairs) (after (next d) (next d (initial d) e) w)
+
+-- neither w nor any longer sequence of the events below k could be accepted
+abbrev pub Hopeless : (k : ℕ) → (accepts : List ℕ → Bool) → (w : List ℕ) → Type 0
+Hopeless k accepts w = (v : List ℕ) → Events k v → accepts (w ++ v) ≡ true → ⊥

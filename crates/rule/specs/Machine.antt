@@ -4,7 +4,7 @@
 use Prim.Native.Nat.{ℕ, _<_}
 use mathlib.Core.Path.{_≡_}
 use mathlib.Core.Bool.{Bool, true}
-use mathlib.Core.List.{List, [], _∷_, _++_}
+use mathlib.Core.List.{List, [], _∷_}
 use Rattle.rule.specs.Reach.{after, Events}
 use Rattle.rule.specs.Drawing.{Drawing, states, events, initial, next}
 use Rattle.rule.specs.Acceptance.{meetsAll}
@@ -40,10 +40,6 @@ acceptsBy m (e ∷ w) = m .accepting (after (m .next) (m .next (m .initial) e) w
 -- no events lead from t to an accepting state; zero moves count
 abbrev pub NeverAccepts : Machine → ℕ → Type 0
 NeverAccepts m t = (w : List ℕ) → Events (m .events) w → m .accepting (after (m .next) t w) ≡ true → ⊥
-
--- neither w nor any longer sequence could be accepted
-abbrev pub Hopeless : Machine → List ℕ → Type 0
-Hopeless m w = (v : List ℕ) → Events (m .events) v → acceptsBy m (w ++ v) ≡ true → ⊥
 
 -- the laws of the operation
 pub record Laws (m : Machine) : Type 0 where

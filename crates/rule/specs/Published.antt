@@ -1,4 +1,5 @@
--- The four published constructions: definitions 8 to 11 of source document 001, with the corrections of document 01.
+-- The four published constructions: definitions 8, 10 and 11 of source document 001 and, for the guarantee, definition 5.2 of source document 000, with the
+-- corrections of document 01.
 -- Each gives the moves of the monitor as rules, and its stopping states; reach counts zero moves. Nothing here speaks of `operationAt`.
 -- Assumes nothing.
 use Prim.Native.Nat.{ℕ, _≤_, _<_}
@@ -28,7 +29,7 @@ pub record Reaches (d : Drawing) (x q : ℕ) : Type 0 where
 abbrev pub ReachesNone : Drawing → ℕ → ℕ → Type 0
 ReachesNone d x q = Reaches d x q → ⊥
 
--- definition 8, safety, over P
+-- safety, over P: definition 8 of document 001
 pub data SafetyMove (d : Drawing) (p : ℕ) (q e : ℕ) : Operation → ℕ → Type 0 where
   dump : In p (next d q e) → SafetyMove d p q e Dump (next d q e)
   halt : Out p (next d q e) → SafetyMove d p q e Halt (next d q e)
@@ -36,7 +37,7 @@ pub data SafetyMove (d : Drawing) (p : ℕ) (q e : ℕ) : Operation → ℕ → 
 abbrev pub SafetyStop : Drawing → ℕ → ℕ → Type 0
 SafetyStop d p q = Out p q
 
--- definition 9, guarantee, over R
+-- guarantee, over R: definition 5.2 of document 000, with halt where no state of R is reached
 pub data GuaranteeMove (d : Drawing) (r : ℕ) (q e : ℕ) : Operation → ℕ → Type 0 where
   dump : In r (next d q e) → GuaranteeMove d r q e Dump (next d q e)
   halt : Out r (next d q e) → ReachesNone d r (next d q e) → GuaranteeMove d r q e Halt (next d q e)
@@ -46,7 +47,7 @@ abbrev pub GuaranteeStop : Drawing → ℕ → ℕ → Type 0
 GuaranteeStop d r q = ReachesNone d r q
 
 infix 4 _⊑_
--- definition 10, obligation: the infimum over the pairs of the supremum of β and γ, in the order halt, store, dump
+-- obligation, definition 10 of document 001: the infimum over the pairs of the supremum of β and γ, in the order halt, store, dump
 abbrev pub _⊑_ : Operation → Operation → Type 0
 a ⊑ b = markOf a ≤ markOf b
 
@@ -82,7 +83,7 @@ pub record ObligationStop (d : Drawing) (q : ℕ) : Type 0 where
   pub outside : Out (pairAt d pair .p) q
   pub reaches-none : ReachesNone d (pairAt d pair .r) q
 
--- definition 11, response, over R: the rules of definition 9, and two for a move from R out of R
+-- response, over R, definition 11 of document 001: the rules of the guarantee, and two for a move from R out of R
 pub data ResponseMove (d : Drawing) (r : ℕ) (q e : ℕ) : Operation → ℕ → Type 0 where
   as-guarantee : {a : Operation} {t : ℕ} → GuaranteeMove d r q e a t → ResponseMove d r q e a t
   store : In r q → Out r (next d q e) → Reaches d r (next d q e) → ResponseMove d r q e Store (next d q e)

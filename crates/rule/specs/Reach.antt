@@ -8,9 +8,13 @@ use lib.ListN.{length, getD}
 use Rattle.rule.specs.Arrays.{filled}
 use Rattle.rule.specs.Sets.{has, including}
 
+-- the place of a cell: row by state, then by event, of so many events a row
+abbrev pub placeOf : (events s e : ℕ) → ℕ
+placeOf events s e = s * events + e
+
 -- the state to which event e leads from state s
 unfoldable pub target : List ℕ → ℕ → ℕ → ℕ → ℕ
-target table k s e = getD table (s * k + e) 0
+target table k s e = getD table (placeOf k s e) 0
 
 -- the state after a sequence of events, from q
 abbrev pub after : (ℕ → ℕ → ℕ) → ℕ → List ℕ → ℕ

@@ -1,6 +1,7 @@
 -- The refusal numbers, and the conditions 5 to 10, which are said of a drawing, with their places.
 -- Assumes nothing.
-use Prim.Native.Nat.{ℕ, zero, suc, _≤_}
+use Prim.Native.Nat.{ℕ, zero, suc}
+use mathlib.Core.Path.{_≡_}
 use mathlib.Core.Bool.{Bool, true, false, _&&_, _||_, not}
 use mathlib.Core.List.{List, [], _∷_}
 use lib.Dec.{leb, eqb}
@@ -11,7 +12,8 @@ use Rattle.rule.specs.Stopping.{stopsBy}
 use Rattle.rule.specs.Classes.{forbidsSome}
 use Rattle.rule.specs.declared.Told.{Told}
 use Rattle.rule.specs.declared.Refusal.{Refusal}
-use Rattle.rule.specs.declared.Refusal.the-variants.{Frame, Class, Range, Distance, Entry, Member, Excess, Move, Stopping, Empty, Sheet, Run, Code, Cell, Memory, Room}
+use Rattle.rule.specs.declared.Refusal.the-variants.{Frame, Class, Range, Distance, Entry, Member, Excess, Move, Stopping, Empty, Sheet, Run}
+use Rattle.rule.specs.declared.Refusal.the-variants.{Code, Cell, Memory, Room}
 use Rattle.rule.specs.declared.Verdict.{Verdict}
 use Rattle.rule.specs.declared.Verdict.the-variants.{Sound, Refused}
 
@@ -37,10 +39,18 @@ toldOf (Cell s e) = tell 14 (s .0) (e .0)
 toldOf Memory = tell 15 0 0
 toldOf Room = tell 16 0 0
 
--- the refusal has one of the numbers from lo to hi
-pub record Numbered (lo hi : ℕ) (r : Refusal) : Type 0 where
-  pub low : lo ≤ toldOf r .number
-  pub high : toldOf r .number ≤ hi
+-- what a verdict tells: 0 where it is sound, else the refusal's number and places
+abbrev pub verdictTold : Verdict → Told
+verdictTold Sound = tell 0 0 0
+verdictTold (Refused r) = toldOf r
+
+-- n is one of these numbers; the refusal has one of them
+abbrev pub among : ℕ → List ℕ → Bool
+among n [] = false
+among n (m ∷ l) = eqb n m || among n l
+
+pub record Numbered (numbers : List ℕ) (r : Refusal) : Type 0 where
+  pub one-of : among (toldOf r .number) numbers ≡ true
 
 -- refused where the condition holds
 abbrev pub refuseIf : Bool → Refusal → Verdict
@@ -112,6 +122,9 @@ emptyAt d i = refuseIf (isEmpty (pairAt d i .r) && isEmpty (pairAt d i .p)) (Emp
 unfoldable pub empties : Drawing → Verdict
 empties d = firstBelow (emptyAt d) (count d)
 
--- the conditions 5 to 10 in order
+-- the conditions 5 to 10 in order, and their numbers
 abbrev pub conditions : Drawing → List Verdict
 conditions d = entries d ∷ members d ∷ excess d ∷ moves d ∷ stopped d ∷ empties d ∷ []
+
+abbrev pub conditionsOrder : List ℕ
+conditionsOrder = 5 ∷ 6 ∷ 7 ∷ 8 ∷ 9 ∷ 10 ∷ []

@@ -2,12 +2,20 @@
 // paper; proofs/ has its laws. What is computed of a rule stands in the crates reach and operations.
 ghost use mathlib.Core.Path.{_≡_};
 ghost use Rattle.rule.specs.Operations.{markOf};
+ghost use Rattle.rule.specs.Reach.{placeOf};
 ghost use Rattle.rule.specs.Refusals.{tell, toldOf};
 
 // A state's number, and an event's code. Each is a type of its own, so that neither stands where the other is meant.
 pub struct StateNo(pub u8);
 
 pub struct EventNo(pub u8);
+
+// The place of a cell in a table or a sheet of so many events a row. Every lookup goes by it: the types keep state and event apart.
+pub fn place(events: u8, s: StateNo, e: EventNo) -> usize
+    ensures { λ r. ⌜ r ≡ placeOf events (s .0) (e .0) ⌝ }
+{
+    s.0 as usize * events as usize + e.0 as usize
+}
 
 // An accepting pair: the sets R and P, bit s for state s.
 pub struct Pair {

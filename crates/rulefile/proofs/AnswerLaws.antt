@@ -4,8 +4,7 @@ use Prim.Native.Nat.{ℕ, _≤_}
 use native.Mathlib.Omega.{arith}
 use mathlib.Core.Path.{_≡_, refl, sym, ap, _∙_}
 use mathlib.Core.Bool.{Bool, true, false, not, cond}
-use mathlib.Core.Logic.{_⊎_, inl, inr}
-use mathlib.Core.List.{List, [], _++_}
+use mathlib.Core.List.{List, [], _∷_, _++_}
 use lib.ListN.{length, take, drop}
 use lib.Seq.{take-at, drop-at}
 use lib.Dec.{leb}
@@ -14,37 +13,25 @@ use Rattle.rule.specs.Drawing.{drawn, zeroRule}
 use Rattle.rule.specs.Refusals.{Numbered}
 use Rattle.rule.specs.declared.Rule.{Rule}
 use Rattle.rule.specs.declared.Refusal.{Refusal}
-use Rattle.rule.specs.declared.Refusal.the-variants.{Frame, Class, Range, Distance, Room}
+use Rattle.rule.specs.declared.Refusal.the-variants.{Class, Range, Distance, Room}
 use Rattle.rule.specs.declared.Verdict.{Verdict}
 use Rattle.rule.specs.declared.Verdict.the-variants.{Sound, Refused as Unsound}
-use Rattle.rule.proofs.NumberLaws.{Gives, refuse-gives, first-gives, and, all-wider, conditions-give}
-use Rattle.trailer.specs.Conditions.{framed, classed, ranged, placed}
-use Rattle.rulefile.specs.Layout.{trailerIn, drawingIn}
-use Rattle.rulefile.specs.Reading.{verdictOn, partsBy, readingBy}
+use Rattle.rule.proofs.NumberLaws.{Gives, test-gives, first-gives, and, conditions-give, among-ahead, among-last}
+use Rattle.trailer.specs.Conditions.{classed, ranged}
+use Rattle.rulefile.specs.Reading.{partsBy, readingBy}
 use Rattle.rulefile.specs.Writing.{verdictOf, settledBy, outputBy, PutPromise, OneWritten}
+use Rattle.rulefile.specs.Given.{drawingOrder, putOrder}
 use Rattle.rulefile.specs.declared.Written.{Written}
 use Rattle.rulefile.specs.declared.Written.the-variants.{Done, Refused as Unwritten}
 
--- the numbers of a file's verdict, and of a rule's
-pub file-gives : (f : List ℕ) → Gives 1 10 (verdictOn f)
-unfolding verdictOn
-file-gives f =
-    let t = trailerIn f in
-    first-gives
-    (and (refuse-gives (not (framed f)) Frame (omega arith))
-    (and (refuse-gives (not (classed (t .shape))) Class (omega arith))
-    (and (refuse-gives (not (ranged (t .shape) (t .spare))) Range (omega arith))
-    (and (refuse-gives (not (placed t (length f))) Distance (omega arith))
-    (all-wider (omega arith) (omega arith) (conditions-give (drawingIn f)))))))
-
-pub rule-gives : (r : Rule) → Gives 2 10 (verdictOf r)
+-- the numbers of a rule's verdict
+pub rule-gives : (r : Rule) → Gives drawingOrder (verdictOf r)
 unfolding verdictOf
 rule-gives r =
     first-gives
-    (and (refuse-gives (not (classed (r .shape))) Class (omega arith))
-    (and (refuse-gives (not (ranged (r .shape) 0)) Range (omega arith))
-    (and (refuse-gives (not (leb (r .length) 1024)) Distance (omega arith))
-    (all-wider (omega arith) (omega arith) (conditions-give (drawn r))))))
+    (and (test-gives (not (classed (r .shape))) Class refl)
+    (and (test-gives (not (ranged (r .shape) 0)) Range refl)
+    (and (test-gives (not (leb (r .length) 1024)) Distance refl) (conditions-give (drawn r)))))
 
 -- looking at a file that is refused, and reading it
 pub parts-zero : (v : Verdict) (f : List ℕ) (x : Refusal) → partsBy v f .verdict ≡ Unsound x → (v ≡ Unsound x) × (partsBy v f ≡ partsBy (Unsound x) [])
@@ -56,13 +43,15 @@ read-zero Sound rule x p = absurd (let z : _≡_ {A = ℕ} 0 1 = cc in omega ari
 read-zero (Unsound y) rule x p = (p, refl)
 
 -- bytes that are put into an output: refused as the verdict is, or for want of room
-pub put-refused : (lo hi : ℕ) (v : Verdict) → Gives lo hi v → (size room : ℕ) (x : Refusal) → settledBy v size room ≡ Unwritten x → Numbered lo hi x ⊎ (x ≡ Room)
-put-refused lo hi Sound g size room x p = by (leb size room) p
+pub put-refused : {order : List ℕ} (v : Verdict) → Gives order v → (size room : ℕ) (x : Refusal) → settledBy v size room ≡ Unwritten x
+    → Numbered (putOrder order) x
+put-refused {order} Sound g size room x p = by (leb size room) p
   where
-    by : (b : Bool) → cond b (Done size) (Unwritten Room) ≡ Unwritten x → Numbered lo hi x ⊎ (x ≡ Room)
+    by : (b : Bool) → cond b (Done size) (Unwritten Room) ≡ Unwritten x → Numbered (putOrder order) x
     by true q = absurd (let z : _≡_ {A = ℕ} 0 1 = cc in omega arith)
-    by false q = inr (cc)
-put-refused lo hi (Unsound y) g size room x p = inl (g x (let e : y ≡ x = cc in ap Unsound e))
+    by false q = let e : Room ≡ x = cc in record { one-of = rw (← e) (among-last 16 order) }
+put-refused {order} (Unsound y) g size room x p =
+    record { one-of = among-ahead _ order (16 ∷ []) (g x (let e : y ≡ x = cc in ap Unsound e) .one-of) }
 
 pub put-kept : (v : Verdict) (bytes out : List ℕ) (x : Refusal) (out′ : List ℕ) → PutPromise v bytes out (Unwritten x) out′ → out′ ≡ out
 put-kept v bytes out x out′ p = p .output ∙ ap (λ (w : Written). outputBy w bytes out) (sym (p .answer))

@@ -13,15 +13,18 @@ use Rattle.rule.specs.Classes.{movesInto, forbids, forbidsSome}
 use Rattle.rule.specs.Stopping.{stopsBy}
 use Rattle.rule.specs.Drawing.{stateNo}
 use Rattle.rule.specs.Refusals.{firstOf, firstBelow, firstCell, entries, members, exceeds, excess, moves, stopped, empties}
+use Rattle.rule.specs.Given.{here}
 use Rattle.rule.specs.declared.Shape.{Shape}
 use Rattle.rule.specs.declared.Refusal.the-variants.{Frame, Range, Distance}
 use Rattle.rule.specs.declared.Verdict.the-variants.{Sound, Refused}
 use Rattle.rule.proofs.SetLaws.{below-or}
+use Rattle.rule.proofs.TableLaws.{NoneOf, own-row, behind}
 use Rattle.trailer.specs.Conditions.{tableBack, pairsBack, framed, classed, ranged, placed}
 use Rattle.rulefile.specs.Layout.{trailerOf, trailerIn, upTo, flatUpTo, drawingIn, trailerOut, fileOf}
 use Rattle.rulefile.specs.Reading.{verdictOn, readingOf}
-use Rattle.rulefile.specs.Given.{under, over, bad-size, BadRange, bad-N, bad-K, bad-m, bad-initial, byte-5, not-one, BadDistance, to-table, to-pairs, short, note, NoneBefore, reading}
-use Rattle.rulefile.proofs.GivenLaws.{read-gives-1, read-gives-3, read-gives-4, read-sound}
+use Rattle.rulefile.specs.Given.{under, over, bad-size, BadRange, bad-N, bad-K, bad-m, bad-initial, byte-5, not-one, to-table, to-pairs, short}
+use Rattle.rulefile.specs.Given.{note, Reading, at-1, at-3, at-4, drawing}
+use Rattle.rulefile.proofs.GivenLaws.{file-within, read-gives, read-sound}
 
 -- by computation, on the file of a rule of n states that stay where they are, with a note of k bytes
 
@@ -67,9 +70,9 @@ module _ (f : List ℕ) where
   shape = trailerIn f .shape
 
   -- N 65 is refused 3, where 1 and 2 are not given
-  pub refused-65 : shape .states ≡ 65 → NoneBefore 3 (reading f) → readingOf f .verdict ≡ Refused Range
+  pub refused-65 : shape .states ≡ 65 → NoneOf (Reading f) (1 ∷ 2 ∷ []) → readingOf f .verdict ≡ Refused Range
   unfolding drawingIn
-  refused-65 e n = read-gives-3 f .1 (n, bad-N (over (omega arith)))
+  refused-65 e n = read-gives f Range .1 (behind (1 ∷ 2 ∷ []) _ n .0 (here (drawing (at-3 (bad-N (over (omega arith)))))))
 
   -- the note: the bytes before the table
   abbrev noteSize : ℕ
@@ -78,28 +81,28 @@ module _ (f : List ℕ) where
   -- a note of 1,024 is not refused 4, where the back distances are right
   pub not-refused-1024 : noteSize ≡ 1024 → trailerIn f .table ≡ tableBack shape → trailerIn f .pairs ≡ pairsBack shape
       → readingOf f .verdict ≡ Refused Distance → ⊥
-  not-refused-1024 e t p v = bad (read-gives-4 f .0 v .1)
+  not-refused-1024 e t p v = bad (own-row (file-within f) (read-gives f Distance .0 v))
     where
-      bad : BadDistance (trailerIn f) (length f) → ⊥
-      bad (to-table n) = n t
-      bad (to-pairs n) = n p
-      bad (short h) = omega arith
-      bad (note h) = omega arith
+      bad : Reading f 4 Distance → ⊥
+      bad (drawing (at-4 (to-table n))) = n t
+      bad (drawing (at-4 (to-pairs n))) = n p
+      bad (drawing (at-4 (short h))) = omega arith
+      bad (drawing (at-4 (note h))) = omega arith
 
   -- one of 1,025 is, where 1 to 3 are not given
-  pub refused-1025 : noteSize ≡ 1025 → NoneBefore 4 (reading f) → readingOf f .verdict ≡ Refused Distance
-  refused-1025 e n = read-gives-4 f .1 (n, note (omega arith))
+  pub refused-1025 : noteSize ≡ 1025 → NoneOf (Reading f) (1 ∷ 2 ∷ 3 ∷ []) → readingOf f .verdict ≡ Refused Distance
+  refused-1025 e n = read-gives f Distance .1 (behind (1 ∷ 2 ∷ 3 ∷ []) _ n .0 (here (drawing (at-4 (note (omega arith))))))
 
   -- and a file that passes 3,212 bytes is refused 1
   pub refused-3213 : 3212 < length f → readingOf f .verdict ≡ Refused Frame
-  refused-3213 h = read-gives-1 f .1 (bad-size (over h))
+  refused-3213 h = read-gives f Frame .1 (here (at-1 (bad-size (over h))))
 
   -- no file under 29 bytes is sound
   pub at-least-29 : readingOf f .verdict ≡ Sound → 29 ≤ length f
   unfolding drawingIn
   at-least-29 v =
       let no-row = read-sound f .0 v in
-      let N : 1 ≤ shape .states = below-or (shape .states) 1 (λ h. absurd (no-row Range (bad-N (under h)))) (λ h. h) in
-      let K : 1 ≤ shape .events = below-or (shape .events) 1 (λ h. absurd (no-row Range (bad-K (under h)))) (λ h. h) in
-      let m : 1 ≤ shape .pairs = below-or (shape .pairs) 1 (λ h. absurd (no-row Range (bad-m (under h)))) (λ h. h) in
-      below-or (length f) (tableBack shape) (λ h. absurd (no-row Distance (short h))) (λ h. omega (arith, one-le-mul N K))
+      let N : 1 ≤ shape .states = below-or (shape .states) 1 (λ h. absurd (no-row 3 Range (drawing (at-3 (bad-N (under h)))))) (λ h. h) in
+      let K : 1 ≤ shape .events = below-or (shape .events) 1 (λ h. absurd (no-row 3 Range (drawing (at-3 (bad-K (under h)))))) (λ h. h) in
+      let m : 1 ≤ shape .pairs = below-or (shape .pairs) 1 (λ h. absurd (no-row 3 Range (drawing (at-3 (bad-m (under h)))))) (λ h. h) in
+      below-or (length f) (tableBack shape) (λ h. absurd (no-row 4 Distance (drawing (at-4 (short h))))) (λ h. omega (arith, one-le-mul N K))

@@ -1,4 +1,4 @@
--- What the tests of the rows 1 to 4 say where they fail, in the words of the table; and what a row says that holds nowhere.
+-- What the tests of the rows 1 to 4 say where they fail, in the words of the table.
 -- Assumes nothing.
 use Prim.Native.Nat.{ℕ, zero, suc, _+_, _-_, _≤_, _<_}
 use native.Mathlib.Omega.{arith}
@@ -9,31 +9,30 @@ use mathlib.Core.Logic.{_⊎_, inl, inr, ⊎-elim, _↔_, Iff·trans}
 use lib.ListN.{length, getD}
 use lib.Seq.{getD-drop}
 use lib.Dec.{leb, ltb, eqb}
-use borrow.Author.Tests.{leb-false, lt-leb, ltb-false, le-ltb, eqb-false, ne-eqb, not-true}
-use Rattle.rule.specs.Drawing.{Drawing, states, events, count, pairAt}
+use borrow.Author.Tests.{leb-false, lt-leb, ltb-false, le-ltb, eqb-false, ne-eqb}
 use Rattle.rule.specs.Refusals.{refuseIf}
-use Rattle.rule.specs.Given.{FirstCell, LowestPair, NoCell, NoPair, Names, BadPair, BadMember, by-R, only-P}
 use Rattle.rule.specs.declared.Shape.{Shape}
 use Rattle.rule.specs.declared.Refusal.{Refusal}
-use Rattle.rule.specs.declared.Verdict.the-variants.{Sound, Refused}
-use Rattle.rule.proofs.BoolLaws.{clash}
+use Rattle.rule.specs.declared.Verdict.the-variants.{Sound}
+use Rattle.rule.proofs.BoolLaws.{Says, clash, not-says}
 use Rattle.rule.proofs.SetLaws.{below-or}
 use Rattle.rule.proofs.RefusalLaws.{not-both, refuse-refused}
 use Rattle.trailer.specs.Conditions.{framed, classed, ranged, placed, tableBack, pairsBack}
 use Rattle.trailer.specs.declared.Trailer.{Trailer}
-use Rattle.rulefile.specs.Given.{Outside, under, over, trailerByte, BadFrame, bad-size, byte-10, byte-11, BadClass, BadRange, bad-N, bad-K, bad-m, bad-initial, byte-5, not-one, BadDistance, to-table, to-pairs, short, note}
+use Rattle.rulefile.specs.Given.{Outside, under, over, trailerByte, BadFrame, bad-size, byte-10, byte-11, BadClass, BadRange, bad-N, bad-K}
+use Rattle.rulefile.specs.Given.{bad-m, bad-initial, byte-5, not-one, BadDistance, to-table, to-pairs, short, note}
 
 -- what a test says where it fails
 
 abbrev pub Fails : Bool → Type 0 → Type 0
 Fails t A = (t ≡ false) ↔ A
 
--- the refusal by a test, and what passed it
-pub hits : {A : Type 0} {t : Bool} (x : Refusal) → Fails t A → (refuseIf (not t) x ≡ Refused x) ↔ A
-hits {A} {t} x f = (λ p. f .0 (not-true t (refuse-refused (not t) x x .0 p .0)), λ a. rw (f .1 a))
+-- the same of its contrary, and what passed it
+pub fails-say : {A : Type 0} {t : Bool} → Fails t A → Says (not t) A
+fails-say {t = t} f = Iff·trans (not-says t) f
 
 pub passed : {A : Type 0} {t : Bool} (x : Refusal) → Fails t A → refuseIf (not t) x ≡ Sound → A → ⊥
-passed x f p a = not-both p (hits x f .1 a)
+passed {t = t} x f p a = not-both p (refuse-refused (not t) x x .1 (fails-say f .1 a, refl))
 
 pub le-fails : (x y : ℕ) → Fails (leb x y) (y < x)
 le-fails x y = (leb-false x y, lt-leb x y)
@@ -129,40 +128,3 @@ distance-fails t size =
       ⊎-elim to-pairs (⊎-elim to-table (⊎-elim short note)),
       λ b. elim b [ to-pairs h ↦ inl h | to-table h ↦ inr (inl h) | short h ↦ inr (inr (inl h)) | note h ↦ inr (inr (inr h)) ],
     )
-
--- a row that holds nowhere: where no cell is the first with a fault, no cell has it, and so for the pairs
-
-none-of : (P : ℕ → Type 0) → ((i : ℕ) → ((j : ℕ) → j < i → P j → ⊥) → P i → ⊥) → (i : ℕ) → P i → ⊥
-none-of P step i = below (suc i) i (omega arith)
-  where
-    below : (n j : ℕ) → j < n → P j → ⊥
-    below zero j h = absurd (omega arith)
-    below (suc n) j h = step j (λ k l. below n k (omega arith))
-
-module _ (d : Drawing) where
-  pub no-pair : (Fault : ℕ → Type 0) → ((i : ℕ) → LowestPair d Fault i → ⊥) → NoPair d Fault
-  no-pair Fault none i h x =
-      none-of (λ i. (i < count d) × Fault i)
-      (λ i lower p. none i (record { used = p .0; fault = p .1; lower = λ j k y. lower j k (omega (arith, p .0), y) }))
-      i (h, x)
-
-  pub no-cell : (Fault : ℕ → ℕ → Type 0) → ((s e : ℕ) → FirstCell d Fault s e → ⊥) → NoCell d Fault
-  no-cell Fault none s e hs he x =
-      none-of (λ s. (s < states d) × ((e : ℕ) × (e < events d) × Fault s e))
-      (λ s rows p.
-      none-of (λ e. (e < events d) × Fault s e)
-      (λ e cells q. none s e (record {
-        state-in = p .0;
-        event-in = q .0;
-        fault = q .1;
-        rows-before = λ s′ e′ k l y. rows s′ k (omega (arith, p .0), (e′, l, y));
-        cells-before = λ e′ k y. cells e′ k (omega (arith, q .0), y);
-      }))
-      (p .1 .0) (p .1 .1, p .1 .2))
-      s (hs, (e, he, x))
-
-  pub no-member : ((i side : ℕ) → BadMember d i side → ⊥) → NoPair d (BadPair d)
-  no-member none =
-      no-pair (BadPair d) (λ i l.
-      let not-R : Names (states d) (pairAt d i .r) → ⊥ = λ r. none i 0 (record { lowest = l; by-side = by-R r }) in
-      ⊎-elim not-R (λ p. none i 1 (record { lowest = l; by-side = only-P not-R p })) (l .fault))

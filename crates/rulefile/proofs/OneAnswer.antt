@@ -1,9 +1,7 @@
--- Any two results that the promise of `parts` allows are equal. Assumes nothing.
-use mathlib.Core.Path.{_≡_, sym, _∙_}
-use mathlib.Core.List.{List}
-use Prim.Native.Nat.{ℕ}
-use Rattle.rulefile.specs.Reading.{partsOf}
-use Rattle.rulefile.specs.declared.Contents.{Contents}
+-- Any two calls with the same arguments that the contract of a function of this crate allows are equal. Assumes nothing.
+use mathlib.Core.Path.{refl, sym, _∙_}
+use Rattle.contracts.specs.Contract.{OneAnswer}
+use Rattle.rulefile.proofs
 
-pub parts-one-answer : (f : List ℕ) {a b : Contents} → a ≡ partsOf f → b ≡ partsOf f → a ≡ b
-parts-one-answer f p q = p ∙ sym q
+pub parts-one-answer : OneAnswer proofs.parts.ended proofs.parts.Reads.Learnt
+parts-one-answer κs a x y = (x .told ∙ sym (y .told), refl)

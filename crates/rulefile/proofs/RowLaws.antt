@@ -1,134 +1,123 @@
--- The first row of the table that holds: of one row, of some rows and then the rows after them, of all sixteen.
+-- The rows of the tables, and the verdicts that decide them.
 -- Assumes nothing.
-use Prim.Native.Nat.{ℕ, suc, _≤_, _<_}
+use Prim.Native.Nat.{ℕ, _≤_, _<_}
 use native.Mathlib.Omega.{arith}
-use mathlib.Core.Path.{_≡_, refl, sym, ap, _∙_, subst}
+use mathlib.Core.Path.{_≡_, refl, subst}
 use mathlib.Core.Bool.{Bool, not}
-use mathlib.Core.List.{[], _∷_}
-use mathlib.Core.Logic.{_↔_}
-use lib.ListN.{getD}
-use Rattle.rule.specs.Drawing.{stateNo, eventNo}
-use Rattle.rule.specs.Refusals.{toldOf, Numbered, refuseIf, orElse}
+use mathlib.Core.List.{_∷_}
+use mathlib.Core.Logic.{_↔_, Iff·trans}
+use lib.ListN.{length}
+use Rattle.rule.specs.Reach.{Closed}
+use Rattle.rule.specs.Drawing.{Drawing, states, events, count, initial, stateNo, eventNo}
+use Rattle.rule.specs.Refusals.{refuseIf, firstOf, entries, members, excess, moves, stopped, empties, conditions, conditionsOrder}
+use Rattle.rule.specs.Given.{Table, FirstCell, LowestPair, BadEntry, BadMember, TooMuch, Forbidden, StopsBy, BothEmpty}
 use Rattle.rule.specs.declared.Refusal.{Refusal}
-use Rattle.rule.specs.declared.Refusal.the-variants.{Frame, Class, Range, Distance, Entry, Member, Excess, Move, Stopping, Empty, Sheet, Run, Code, Cell, Memory, Room}
+use Rattle.rule.specs.declared.Refusal.the-variants.{Class, Range, Distance, Entry, Member, Excess, Move, Stopping, Empty}
 use Rattle.rule.specs.declared.Verdict.{Verdict}
-use Rattle.rule.specs.declared.Verdict.the-variants.{Sound, Refused}
+use Rattle.rule.specs.declared.Verdict.the-variants.{Refused}
 use Rattle.rule.proofs.SetLaws.{below-or}
-use Rattle.rule.proofs.RefusalLaws.{not-both, sound-or}
-use Rattle.rule.proofs.NumberLaws.{Gives, sound-gives, refuse-gives}
-use Rattle.rulefile.specs.Given.{Call, Row, NoneBefore, NoRow}
-use Rattle.rulefile.proofs.FaultLaws.{Fails, hits}
+use Rattle.rule.proofs.GivenLaws.{entries-sound, entries-refused, members-refused, excess-refused, moves-refused, stopped-refused, empties-refused}
+use Rattle.rule.proofs.TableLaws.{Within, Decides, Answers, decided, end, then}
+use Rattle.trailer.specs.Conditions.{class, range}
+use Rattle.rulefile.specs.Given.{over, BadClass, BadRange, bad-N, bad-m, bad-initial, drawingOrder, DrawingRow, at-2, at-3, at-4, at-5, at-6}
+use Rattle.rulefile.specs.Given.{at-7, at-8, at-9, at-10}
+use Rattle.rulefile.proofs.FaultLaws.{Fails, fails-say, passed, class-fails, range-fails}
 
-abbrev pub number : Refusal → ℕ
-number x = toldOf x .number
+module _ (d : Drawing) (spare : ℕ) (far : Type 0) where
+  abbrev T : Table
+  T = DrawingRow d spare far
 
--- the refusal that has a number from 1 to 16, at places a and b
-abbrev pub named : ℕ → ℕ → ℕ → Refusal
-named n a b =
-    getD
-    (Room ∷ Frame ∷ Class ∷ Range ∷ Distance ∷ Entry (stateNo a) (eventNo b) ∷ Member a b ∷ Excess ∷ Move (stateNo a) (eventNo b) ∷ Stopping a
-    ∷ Empty a ∷ Sheet ∷ Run ∷ Code ∷ Cell (stateNo a) (eventNo b) ∷ Memory ∷ [])
-    n Room
+  pub drawing-within : Within drawingOrder T
+  drawing-within n x (at-2 a) = record { number = refl; listed = refl }
+  drawing-within n x (at-3 a) = record { number = refl; listed = refl }
+  drawing-within n x (at-4 a) = record { number = refl; listed = refl }
+  drawing-within n x (at-5 a) = record { number = refl; listed = refl }
+  drawing-within n x (at-6 a) = record { number = refl; listed = refl }
+  drawing-within n x (at-7 a) = record { number = refl; listed = refl }
+  drawing-within n x (at-8 a) = record { number = refl; listed = refl }
+  drawing-within n x (at-9 a) = record { number = refl; listed = refl }
+  drawing-within n x (at-10 a) = record { number = refl; listed = refl }
 
--- every refusal is the one that its number and places name
-named-told : (x : Refusal) → (named (toldOf x .number) (toldOf x .a) (toldOf x .b) ≡ x) × Numbered 1 16 x
-named-told Frame = (refl, omega arith)
-named-told Class = (refl, omega arith)
-named-told Range = (refl, omega arith)
-named-told Distance = (refl, omega arith)
-named-told (Entry s e) = (refl, omega arith)
-named-told (Member i side) = (refl, omega arith)
-named-told Excess = (refl, omega arith)
-named-told (Move s e) = (refl, omega arith)
-named-told (Stopping i) = (refl, omega arith)
-named-told (Empty i) = (refl, omega arith)
-named-told Sheet = (refl, omega arith)
-named-told Run = (refl, omega arith)
-named-told Code = (refl, omega arith)
-named-told (Cell s e) = (refl, omega arith)
-named-told Memory = (refl, omega arith)
-named-told Room = (refl, omega arith)
+  -- a row that gives x gives what x is
+  same : {n : ℕ} {x y : Refusal} → x ≡ y → T n x → T n y
+  same {n} e = subst (λ (z : Refusal). T n z) e
 
--- no row with a number from lo on and below n holds
-abbrev pub NoneFrom : ℕ → ℕ → Call → Type 0
-NoneFrom lo n c = (x : Refusal) → lo ≤ number x → number x < n → Row c x → ⊥
+  row-2 : {t : Bool} → Fails t (BadClass (d .shape)) → Decides T 2 (refuseIf (not t) Class)
+  row-2 f = decided T 2 (fails-say f) at-2 says
+    where
+      says : (y : Refusal) → T 2 y → (Class ≡ y) × (BadClass (d .shape))
+      says y (at-2 a) = (refl, a)
 
--- of the rows with the numbers lo to hi, the verdict gives the first that holds
-pub record Answers (c : Call) (lo hi : ℕ) (v : Verdict) : Type 0 where
-  pub none : v ≡ Sound → NoneFrom lo (suc hi) c
-  pub gives : (x : Refusal) → v ≡ Refused x → Numbered lo hi x × NoneFrom lo (number x) c × Row c x
-  pub given : (x : Refusal) → Numbered lo hi x → NoneFrom lo (number x) c → Row c x → v ≡ Refused x
+  row-3 : {t : Bool} → Fails t (BadRange (d .shape) spare) → Decides T 3 (refuseIf (not t) Range)
+  row-3 f = decided T 3 (fails-say f) at-3 says
+    where
+      says : (y : Refusal) → T 3 y → (Range ≡ y) × (BadRange (d .shape) spare)
+      says y (at-3 a) = (refl, a)
 
--- one row
-pub row : {c : Call} (n : ℕ) {v : Verdict} → Gives n n v → ((a b : ℕ) → (v ≡ Refused (named n a b)) ↔ Row c (named n a b)) → Answers c n n v
-row {c} n {v} g iff =
-    record {
-      none = λ p x l h r. not-both p (is x (omega arith) .1 r);
-      gives = λ x p. let i = g x p in (i, λ y l h. absurd (omega arith), is x (omega arith) .0 p);
-      given = λ x i o r. is x (omega arith) .1 r;
-    }
-  where
-    is : (x : Refusal) → number x ≡ n → (v ≡ Refused x) ↔ Row c x
-    is x e =
-        subst (λ (y : Refusal). (v ≡ Refused y) ↔ Row c y) (ap (λ (k : ℕ). named k (toldOf x .a) (toldOf x .b)) (sym e) ∙ named-told x .0)
-        (iff (toldOf x .a) (toldOf x .b))
+  row-4 : {t : Bool} → Fails t far → Decides T 4 (refuseIf (not t) Distance)
+  row-4 f = decided T 4 (fails-say f) at-4 says
+    where
+      says : (y : Refusal) → T 4 y → (Distance ≡ y) × far
+      says y (at-4 a) = (refl, a)
 
--- a row that a test decides
-pub test-row : {c : Call} {t : Bool} (n : ℕ) (x : Refusal) → ((a b : ℕ) → named n a b ≡ x) → Numbered n n x
-    → Fails t (Row c x) → Answers c n n (refuseIf (not t) x)
-test-row {c} {t} n x is i f = row n (refuse-gives (not t) x i) (λ a b. rw (is a b) (hits x f))
+  row-5 : Decides T 5 (entries d)
+  row-5 y = Iff·trans (entries-refused d y) (λ h. same (h .2) (at-5 (h .3)), says)
+    where
+      says : {y : Refusal} → T 5 y → (s e : ℕ) × (Entry (stateNo s) (eventNo e) ≡ y) × FirstCell d (BadEntry d) s e
+      says (at-5 a) = (_, _, refl, a)
 
--- a row that says nothing in this call
-pub no-row : {c : Call} (n : ℕ) → ((a b : ℕ) → Row c (named n a b) → ⊥) → Answers c n n Sound
-no-row n never = row n sound-gives (λ a b. (not-both refl, λ r. absurd (never a b r)))
+  row-6 : Decides T 6 (members d)
+  row-6 y = Iff·trans (members-refused d y) (λ h. same (h .2) (at-6 (h .3)), says)
+    where
+      says : {y : Refusal} → T 6 y → (i side : ℕ) × (Member i side ≡ y) × BadMember d i side
+      says (at-6 a) = (_, _, refl, a)
 
--- some rows, and then the rows after them
-pub then : {c : Call} {lo mid hi : ℕ} (v w : Verdict) → (lo ≤ suc mid) × (mid ≤ hi)
-    → Answers c lo mid v → (v ≡ Sound → Answers c (suc mid) hi w) → Answers c lo hi (orElse v w)
-then {c} {lo} {mid} {hi} Sound w m a rest =
-    let b = rest refl in
-    record {
-      none = λ p x i k r. below-or (number x) (suc mid) (λ q. a .none refl x i q r) (λ q. b .none p x q k r);
-      gives = λ x p. let g = b .gives x p in (
-        record { low = omega (arith, g .0 .low); high = g .0 .high },
-        λ y i k r. below-or (number y) (suc mid) (λ q. a .none refl y i q r) (λ q. g .1 y q k r),
-        g .2,
-      );
-      given = λ x i o r. below-or (number x) (suc mid) (λ q. absurd (a .none refl x (i .low) q r))
-          (λ q. b .given x (record { low = q; high = i .high }) (λ y j. o y (omega arith)) r);
-    }
-then {c} {lo} {mid} {hi} (Refused z) w m a rest =
-    record {
-      none = λ p. not-both p refl;
-      gives = λ x p. let g = a .gives x p in (record { low = g .0 .low; high = omega (arith, g .0 .high) }, g .1, g .2);
-      given = λ x i o r. below-or (number x) (suc mid)
-          (λ q. a .given x (record { low = i .low; high = omega arith }) o r)
-          (λ q. let g = a .gives z refl in absurd (o z (g .0 .low) (omega (arith, g .0 .high)) (g .2)));
-    }
+  row-7 : Decides T 7 (excess d)
+  row-7 y = Iff·trans (excess-refused d y) (λ h. same (h .0) (at-7 (h .1)), says)
+    where
+      says : {y : Refusal} → T 7 y → (Excess ≡ y) × TooMuch d
+      says (at-7 a) = (refl, a)
 
--- no rows
-pub no-rows : {c : Call} (n : ℕ) → Answers c (suc n) n Sound
-no-rows n =
-    record {
-      none = λ p x l h. absurd (omega arith);
-      gives = λ x p. not-both refl p;
-      given = λ x i. absurd (omega arith);
-    }
+  row-8 : length (d .pairs) ≡ count d → Decides T 8 (moves d)
+  row-8 whole y = Iff·trans (moves-refused d whole y) (λ h. same (h .2) (at-8 (h .3)), says)
+    where
+      says : {y : Refusal} → T 8 y → (s e : ℕ) × (Move (stateNo s) (eventNo e) ≡ y) × FirstCell d (Forbidden d) s e
+      says (at-8 a) = (_, _, refl, a)
 
--- nothing comes before 1
-pub none-before-1 : (c : Call) → NoneBefore 1 c
-none-before-1 c x h = let n = named-told x .1 in absurd (omega arith)
+  row-9 : Closed (d .table) (states d) (events d) → states d ≤ 64 → initial d < states d → Decides T 9 (stopped d)
+  row-9 closed few start y = Iff·trans (stopped-refused d closed few start y) (λ h. same (h .1) (at-9 (h .2)), says)
+    where
+      says : {y : Refusal} → T 9 y → (i : ℕ) × (Stopping i ≡ y) × LowestPair d (StopsBy d (initial d)) i
+      says (at-9 a) = (_, refl, a)
 
--- of all sixteen
-module _ {c : Call} {v : Verdict} (a : Answers c 1 16 v) where
-  pub exactly : (x : Refusal) → (v ≡ Refused x) ↔ (NoneBefore (number x) c × Row c x)
-  exactly x = (
-    λ p. let g = a .gives x p in (λ y h. g .1 y (named-told y .1 .low) h, g .2),
-    λ p. a .given x (named-told x .1) (λ y l. p .0 y) (p .1),
-  )
+  row-10 : Decides T 10 (empties d)
+  row-10 y = Iff·trans (empties-refused d y) (λ h. same (h .1) (at-10 (h .2)), says)
+    where
+      says : {y : Refusal} → T 10 y → (i : ℕ) × (Empty i ≡ y) × LowestPair d (BothEmpty d) i
+      says (at-10 a) = (_, refl, a)
 
-  pub sound-exactly : (v ≡ Sound) ↔ NoRow c
-  sound-exactly = (
-    λ p x. let n = named-told x .1 in a .none p x (n .low) (omega arith),
-    λ n. sound-or v (λ p. p) (λ x p. absurd (n x (a .gives x p .2))),
-  )
+  -- 5 to 10
+  drawing-rows : length (d .pairs) ≡ count d → states d ≤ 64 → initial d < states d → Answers T conditionsOrder (firstOf (conditions d))
+  unfolding firstOf
+  drawing-rows whole few start =
+      then (entries d) row-5 (λ closed.
+      then (members d) row-6 (λ _.
+      then (excess d) row-7 (λ _.
+      then (moves d) (row-8 whole) (λ _.
+      then (stopped d) (row-9 (entries-sound d .0 closed) few start) (λ _.
+      then (empties d) row-10 (λ _. end))))))
+
+  -- 2 to 10
+  pub shape-rows : {t : Bool} → Fails t far → (count d ≤ 8 → length (d .pairs) ≡ count d)
+      → Answers T drawingOrder (firstOf (class (d .shape) ∷ range (d .shape) spare ∷ refuseIf (not t) Distance ∷ conditions d))
+  unfolding firstOf
+  shape-rows {t} four whole =
+      then (class (d .shape)) (row-2 (class-fails (d .shape))) (λ two.
+      let of-range = range-fails (d .shape) spare (passed Class (class-fails (d .shape)) two) in
+      then (range (d .shape) spare) (row-3 of-range) (λ three.
+      let in-range = passed Range of-range three in
+      then (refuseIf (not t) Distance) (row-4 four) (λ _.
+      drawing-rows
+      (whole (below-or 8 (count d) (λ h. absurd (in-range (bad-m (over h)))) (λ h. h)))
+      (below-or 64 (states d) (λ h. absurd (in-range (bad-N (over h)))) (λ h. h))
+      (below-or (initial d) (states d) (λ h. h) (λ h. absurd (in-range (bad-initial h)))))))

@@ -1,18 +1,20 @@
--- The paper's table "Refusal numbers", for a call on a rule file or a rule: the rows 1 to 4 and 16 in plain words, and then the table.
+-- The paper's table "Refusal numbers", for a call on a rule file or a rule: the rows 1 to 4 in plain words, and then the tables.
 -- Assumes nothing.
 use Prim.Native.Nat.{ℕ, _-_, _≤_, _<_}
 use mathlib.Core.Path.{_≡_}
-use mathlib.Core.List.{List}
+use mathlib.Core.List.{List, [], _∷_, _++_}
 use mathlib.Core.Logic.{_⊎_}
 use lib.ListN.{length, getD, drop}
 use Rattle.rule.specs.Drawing.{Drawing, initial, drawn}
-use Rattle.rule.specs.Refusals.{toldOf}
-use Rattle.rule.specs.Given.{FirstCell, LowestPair, BadEntry, BadMember, TooMuch, Forbidden, StopsBy, BothEmpty}
+use Rattle.rule.specs.Refusals.{conditionsOrder}
+use Rattle.rule.specs.Given.{Table, After, FirstCell, LowestPair, BadEntry, BadMember, TooMuch, Forbidden, StopsBy, BothEmpty}
 use Rattle.rule.specs.declared.Rule.{Rule}
+use Rattle.rule.specs.declared.StateNo.{StateNo}
+use Rattle.rule.specs.declared.EventNo.{EventNo}
 use Rattle.rule.specs.declared.Shape.{Shape}
 use Rattle.rule.specs.declared.Refusal.{Refusal}
-use Rattle.rule.specs.declared.Refusal.the-variants.{Frame, Class, Range, Distance, Entry, Member, Excess, Move, Stopping, Empty, Sheet, Run, Code, Cell, Memory, Room}
-use Rattle.trailer.specs.Conditions.{tableBack, pairsBack}
+use Rattle.rule.specs.declared.Refusal.the-variants.{Frame, Class, Range, Distance, Entry, Member, Excess, Move, Stopping, Empty, Room}
+use Rattle.trailer.specs.Conditions.{tableBack, pairsBack, headOrder}
 use Rattle.trailer.specs.declared.Trailer.{Trailer}
 use Rattle.rulefile.specs.Layout.{trailerIn, drawingIn, fileOf}
 
@@ -54,66 +56,40 @@ pub data BadDistance (t : Trailer) (size : ℕ) : Type 0 where
   short : size < tableBack (t .shape) → BadDistance t size
   note : LongNote (size - tableBack (t .shape)) → BadDistance t size
 
--- 16: the output has too little room
-abbrev pub NoRoom : ℕ → ℕ → Type 0
-NoRoom size room = room < size
+-- the numbers that a rule's drawing can give, in order of checking
+abbrev pub drawingOrder : List ℕ
+drawingOrder = headOrder ++ conditionsOrder
 
--- what a call looks at: the rule that is drawn, byte 5, and what the rows 1, 4 and 16 say of it
-pub record Call : Type 1 where
-  pub drawing : Drawing
-  pub spare : ℕ
-  pub row-1 : Type 0
-  pub row-4 : Type 0
-  pub row-16 : Type 0
-
--- the table: what the row of each refusal says, at its places A and B; 11 to 15 are not given by these calls
-abbrev pub Row : Call → Refusal → Type 0
-Row c Frame = c .row-1
-Row c Class = BadClass (c .drawing .shape)
-Row c Range = BadRange (c .drawing .shape) (c .spare)
-Row c Distance = c .row-4
-Row c (Entry s e) = FirstCell (c .drawing) (BadEntry (c .drawing)) (s .0) (e .0)
-Row c (Member i side) = BadMember (c .drawing) i side
-Row c Excess = TooMuch (c .drawing)
-Row c (Move s e) = FirstCell (c .drawing) (Forbidden (c .drawing)) (s .0) (e .0)
-Row c (Stopping i) = LowestPair (c .drawing) (StopsBy (c .drawing) (initial (c .drawing))) i
-Row c (Empty i) = LowestPair (c .drawing) (BothEmpty (c .drawing)) i
-Row c Sheet = ⊥
-Row c Run = ⊥
-Row c Code = ⊥
-Row c (Cell s e) = ⊥
-Row c Memory = ⊥
-Row c Room = c .row-16
-
--- no row with a number below n holds, at any places; no row holds
-abbrev pub NoneBefore : ℕ → Call → Type 0
-NoneBefore n c = (x : Refusal) → toldOf x .number < n → Row c x → ⊥
-
-abbrev pub NoRow : Call → Type 0
-NoRow c = (x : Refusal) → Row c x → ⊥
-
--- a call that takes the rule as its file gives 1 to 10, and then 16 where there is no room
-abbrev pub onFile : List ℕ → Type 0 → Call
-onFile f no-room =
-    record {
-      drawing = drawingIn f;
-      spare = trailerIn f .spare;
-      row-1 = BadFrame f;
-      row-4 = BadDistance (trailerIn f) (length f);
-      row-16 = no-room;
-    }
+-- the table's rows on the rule that is drawn, byte 5, and what row 4 says in the call: number, refusal with its places A and B, when
+pub data DrawingRow (d : Drawing) (spare : ℕ) (bad-distance : Type 0) : ℕ → Refusal → Type 0 where
+  at-2 : BadClass (d .shape) → DrawingRow d spare bad-distance 2 Class
+  at-3 : BadRange (d .shape) spare → DrawingRow d spare bad-distance 3 Range
+  at-4 : bad-distance → DrawingRow d spare bad-distance 4 Distance
+  at-5 : {s : StateNo} {e : EventNo} → FirstCell d (BadEntry d) (s .0) (e .0) → DrawingRow d spare bad-distance 5 (Entry s e)
+  at-6 : {i side : ℕ} → BadMember d i side → DrawingRow d spare bad-distance 6 (Member i side)
+  at-7 : TooMuch d → DrawingRow d spare bad-distance 7 Excess
+  at-8 : {s : StateNo} {e : EventNo} → FirstCell d (Forbidden d) (s .0) (e .0) → DrawingRow d spare bad-distance 8 (Move s e)
+  at-9 : {i : ℕ} → LowestPair d (StopsBy d (initial d)) i → DrawingRow d spare bad-distance 9 (Stopping i)
+  at-10 : {i : ℕ} → LowestPair d (BothEmpty d) i → DrawingRow d spare bad-distance 10 (Empty i)
 
 -- reading gives 1 to 10
-abbrev pub reading : List ℕ → Call
-reading f = onFile f ⊥
+abbrev pub readingOrder : List ℕ
+readingOrder = 1 ∷ drawingOrder
+
+pub data Reading (f : List ℕ) : ℕ → Refusal → Type 0 where
+  at-1 : BadFrame f → Reading f 1 Frame
+  drawing : {n : ℕ} {x : Refusal} → DrawingRow (drawingIn f) (trailerIn f .spare) (BadDistance (trailerIn f) (length f)) n x → Reading f n x
+
+-- bytes of this size that are put into an output give 16 last: the output has too little room
+abbrev pub Put : Table → (size room : ℕ) → Table
+Put T size room = After T 16 Room (room < size)
+
+abbrev pub putOrder : List ℕ → List ℕ
+putOrder order = order ++ (16 ∷ [])
 
 -- writing a rule gives 2, 3, 4 for the note only, 5 to 10, then 16
-abbrev pub writing : Rule → ℕ → Call
-writing r room =
-    record {
-      drawing = drawn r;
-      spare = 0;
-      row-1 = ⊥;
-      row-4 = LongNote (r .length);
-      row-16 = NoRoom (length (fileOf (drawn r))) room;
-    }
+abbrev pub writingOrder : List ℕ
+writingOrder = putOrder drawingOrder
+
+abbrev pub Writing : Rule → ℕ → Table
+Writing r room = Put (DrawingRow (drawn r) 0 (LongNote (r .length))) (length (fileOf (drawn r))) room

@@ -7,8 +7,9 @@ use mathlib.Core.List.{List, [], _∷_, _++_}
 use lib.ListN.{length, drop}
 use lib.Dec.{leb}
 use Rattle.rule.specs.Drawing.{drawn}
-use Rattle.rule.specs.Refusals.{refuseIf, firstOf, conditions}
+use Rattle.rule.specs.Refusals.{tell, toldOf, refuseIf, firstOf, conditions}
 use Rattle.rule.specs.declared.Rule.{Rule}
+use Rattle.rule.specs.declared.Told.{Told}
 use Rattle.rule.specs.declared.Shape.{Shape}
 use Rattle.rule.specs.declared.Refusal.the-variants.{Distance, Room}
 use Rattle.rule.specs.declared.Verdict.{Verdict}
@@ -37,6 +38,11 @@ pub record Held (r : Rule) : Type 0 where
   pub note-long : length (r .note) ≡ 1024
   pub table-long : length (r .table) ≡ 2048
   pub pairs-long : length (r .pairs) ≡ 8
+
+-- what such a call tells: 0 where it is done, else the refusal's number and places
+abbrev pub writtenTold : Written → Told
+writtenTold (Done n) = tell 0 0 0
+writtenTold (Refused r) = toldOf r
 
 -- putting some bytes into an output of so much room: refused as the verdict is, refused 16, or done
 abbrev pub settledBy : Verdict → ℕ → ℕ → Written

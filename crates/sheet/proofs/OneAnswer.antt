@@ -1,10 +1,7 @@
--- Any two results that a promise of this crate allows are equal.
--- Assumes nothing.
-use Prim.Native.Nat.{ℕ}
-use mathlib.Core.Path.{_≡_, sym, _∙_}
-use mathlib.Core.List.{List}
-use Rattle.sheet.specs.Opening.{openedOf}
-use Rattle.sheet.specs.declared.Opened.{Opened}
+-- Any two calls with the same arguments that the contract of a function of this crate allows are equal. Assumes nothing.
+use mathlib.Core.Path.{refl, sym, _∙_}
+use Rattle.contracts.specs.Contract.{OneAnswer}
+use Rattle.sheet.proofs
 
-pub open-one-answer : (sheet : List ℕ) {a b : Opened} → a ≡ openedOf sheet → b ≡ openedOf sheet → a ≡ b
-open-one-answer sheet p q = p ∙ sym q
+pub open-one-answer : OneAnswer proofs.open.ended proofs.open.Reads.Learnt
+open-one-answer κs a x y = (x .told ∙ sym (y .told), refl)

@@ -2,7 +2,6 @@
 -- Assumes nothing.
 use Prim.Native.Nat.{ℕ, _+_, _*_, _≤_, _<_}
 use native.Mathlib.Omega.{arith}
-use native.Mathlib.Nat.{mul-le-mul}
 use mathlib.Core.Path.{_≡_, refl, sym, _∙_}
 use mathlib.Core.Bool.{Bool, true, false, cond, not, _&&_, and-false}
 use mathlib.Core.List.{List}
@@ -10,10 +9,9 @@ use mathlib.Core.Logic.{_↔_}
 use lib.Arith.{digits-lt}
 use lib.Dec.{leb, eqb}
 use lib.ListN.{length}
-use mir.Val.{Fits}
-use mir.Syntax.{w64}
 use borrow.Author.Tests.{lt-leb, le-ltb, ne-eqb, leb-false, ltb-false, eqb-false, not-true, not-false}
-use Rattle.rule.proofs.BoolLaws.{Says, and-says, eq-says, le-says, lt-says, in-words}
+use Rattle.rule.specs.Reach.{placeOf}
+use Rattle.rule.proofs.BoolLaws.{Says, and-says, eq-says, le-says, lt-says, in-words, not-says}
 use Rattle.sheet.specs.Given.{BadSheet, short, unmarked, no-states, many-states, no-events, many-events, no-initial, wrong-distance, wrong-length, GoodSheet}
 use Rattle.sheet.specs.Opening.{back, headIn, wholeSize, inRange, opens, openedOf}
 use Rattle.sheet.specs.declared.Head.{Head}
@@ -107,6 +105,9 @@ pub bad-refused : {l : List ℕ} → BadSheet l → Refused ≡ openedOf l
 unfolding openedOf
 bad-refused b = rw (bad-shut b)
 
+pub shut-says : (l : List ℕ) → Says (not (opens l)) (BadSheet l)
+shut-says l = in-words (not-says (opens l)) (shut-bad l) bad-shut
+
 pub refused-when : (l : List ℕ) → (openedOf l ≡ Refused) ↔ BadSheet l
 unfolding openedOf
 refused-when l = (λ e. shut-bad l (chose-not (headIn l) (opens l) e), λ b. sym (bad-refused b))
@@ -115,10 +116,6 @@ refused-when l = (λ e. shut-bad l (chose-not (headIn l) (opens l) e), λ b. sym
 pub good-opened : {l : List ℕ} → GoodSheet l → Sheet (headIn l) ≡ openedOf l
 unfolding openedOf
 good-opened g = rw (good-says _ .1 g)
-
--- products of a sheet's numbers fit
-pub cells-fit : (n k : ℕ) → n ≤ 64 → k ≤ 32 → Fits w64 (n * k)
-cells-fit n k h₁ h₂ = omega (arith, mul-le-mul h₁ h₂)
 
 -- the code's tests: the numbers by `in_range`, the distance by `word`, the length by `size`; `faults` finds 11 from any of them
 module _ (l : List ℕ) {ok : Bool} (is : ok ≡ inRange (back l 6) (back l 5) (back l 4)) where
@@ -180,15 +177,5 @@ sized {l} {h} e =
     }
 
 -- a cell's place is before the last six bytes
-module _ (l : List ℕ) (h : Head) (o : Sheet h ≡ openedOf l) (s : ℕ) (state-in : s < h .states) where
-  pub row-fits : Fits w64 (s * h .events)
-  row-fits = let z = sized o in cells-fit s (h .events) (omega arith) (omega arith)
-
-  module _ (e : ℕ) (event-in : e < h .events) where
-    pub place-inside : s * h .events + e < length l
-    place-inside = omega (arith, digits-lt state-in event-in, sized o .size)
-
-    pub place-fits : Fits w64 (s * h .events + e)
-    place-fits =
-        let z = sized o in
-        omega (arith, digits-lt state-in event-in, mul-le-mul (z .few-states) (z .few-events))
+pub place-inside : (l : List ℕ) (h : Head) → Sheet h ≡ openedOf l → (s : ℕ) → s < h .states → (e : ℕ) → e < h .events → placeOf (h .events) s e < length l
+place-inside l h o s state-in e event-in = omega (arith, digits-lt state-in event-in, sized o .size)

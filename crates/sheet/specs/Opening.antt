@@ -6,6 +6,9 @@ use mathlib.Core.List.{List}
 use lib.ListN.{length, getD}
 use lib.Dec.{leb, ltb, eqb}
 use Rattle.rule.specs.Drawing.{stateNo}
+use Rattle.rule.specs.Refusals.{tell, toldOf}
+use Rattle.rule.specs.declared.Told.{Told}
+use Rattle.rule.specs.declared.Refusal.the-variants.{Sheet as NoSheet}
 use Rattle.sheet.specs.declared.Head.{Head}
 use Rattle.sheet.specs.declared.Opened.{Opened}
 use Rattle.sheet.specs.declared.Opened.the-variants.{Sheet, Refused}
@@ -34,3 +37,8 @@ opens l =
 
 unfoldable pub openedOf : List ℕ → Opened
 openedOf l = cond (opens l) (Sheet (headIn l)) Refused
+
+-- what opening tells: 0 where the sheet opens, else 11
+abbrev pub openedTold : Opened → Told
+openedTold (Sheet h) = tell 0 0 0
+openedTold Refused = toldOf NoSheet

@@ -25,7 +25,7 @@ fn main() {
     if length == 3213 {
         pass_rest();
     }
-    let mut out = [0u8; 32768];
+    let mut out = [0u8; printed::TEXT_MAX];
     let written = printed::print(&file[..length], &mut out);
     if let Written::Done(size) = written {
         io::write_all(STDOUT_FILENO, &out[..size]);

@@ -51,9 +51,15 @@ placed t size =
 abbrev pub distance : Trailer → ℕ → Verdict
 distance t size = refuseIf (not (placed t size)) Distance
 
--- the conditions of a shape, 2 and 3, and of a trailer in a file of so many bytes, 2 to 4
+-- the conditions of a shape, and of a trailer in a file of so many bytes, with their numbers
 abbrev pub shapeConditions : Shape → ℕ → List Verdict
 shapeConditions s spare = class s ∷ range s spare ∷ []
 
+abbrev pub shapeOrder : List ℕ
+shapeOrder = 2 ∷ 3 ∷ []
+
 abbrev pub headConditions : Trailer → ℕ → List Verdict
 headConditions t size = class (t .shape) ∷ range (t .shape) (t .spare) ∷ distance t size ∷ []
+
+abbrev pub headOrder : List ℕ
+headOrder = 2 ∷ 3 ∷ 4 ∷ []

@@ -1,11 +1,7 @@
--- Any two results that the promise of `write` allows are equal, in the answer and in the whole output. Assumes nothing.
-use mathlib.Core.Path.{_≡_, sym, _∙_}
-use mathlib.Core.List.{List}
-use Prim.Native.Nat.{ℕ}
-use Rattle.rule.specs.declared.Rule.{Rule}
-use Rattle.rulefile.specs.Writing.{WritePromise}
-use Rattle.rulefile.specs.declared.Written.{Written}
+-- Any two calls with the same arguments that the contract of a function of this crate allows are equal. Assumes nothing.
+use mathlib.Core.Path.{sym, _∙_}
+use Rattle.contracts.specs.Contract.{OneAnswer}
+use Rattle.writing.proofs
 
-pub write-one-answer : (r : Rule) (out : List ℕ) {a b : Written} {x y : List ℕ}
-    → WritePromise r out a x → WritePromise r out b y → (a ≡ b) × (x ≡ y)
-write-one-answer r out p q = (p .answer ∙ sym (q .answer), p .output ∙ sym (q .output))
+pub write-one-answer : OneAnswer proofs.write.ended proofs.write.Reads.Learnt
+write-one-answer κs a x y = (x .told .answer ∙ sym (y .told .answer), λ i. (tt, ((x .told .output ∙ sym (y .told .output)) i, tt)))

@@ -1,48 +1,38 @@
 -- `reach::with_moves` meets its contract: both loops build the definition one event at a time.
 -- Assumes nothing.
 use borrow.Author.Needs.{needs}
-use mathlib.Core.Path.{_≡_, refl}
-use Prim.Native.Nat.{ℕ, _≤_, _+_, _-_, _*_}
+use mathlib.Core.Path.{_≡_}
+use Prim.Native.Nat.{_≤_, _-_}
 use native.Mathlib.Omega.{arith}
 use lib.ListN.{length}
-use Rattle.rule.specs.Reach.{withMoves}
-use Rattle.rule.proofs.ByteLaws.{product-fits, place-fits}
+use Rattle.rule.specs.Reach.{placeOf, withMoves}
 use Rattle.reach.proofs.StepLaws.{moves-none, moves-more, moves-read, moves-all}
 use Rattle.reach.proofs.with_moves.Statement.{statement}
 use Rattle.reach.proofs.with_moves.Tie as tie
 
 abbrev Inv-loop : tie.InvT-loop
-Inv-loop table events set row end out₀ e₀ out e = (e ≤ events) × (row + events ≤ length table) × ((s : ℕ) → row ≡ s * events → out ≡ withMoves table events s set e)
+Inv-loop table events s set out₀ e₀ out e = (e ≤ events) × (placeOf events (s .0) events ≤ length table) × (out ≡ withMoves table events (s .0) set e)
 
 abbrev μ-loop : tie.MeasureT-loop
-μ-loop table events set row end out₀ e₀ out e = events - e
+μ-loop table events s set out₀ e₀ out e = events - e
 
 abbrev Inv-loop2 : tie.InvT-loop2
-Inv-loop2 table events s set row end out₀ e₀ out e = (e ≤ events) × (out ≡ withMoves table events (s .0) set e)
+Inv-loop2 table events s set out₀ e₀ out e = (e ≤ events) × (out ≡ withMoves table events (s .0) set e)
 
 abbrev μ-loop2 : tie.MeasureT-loop2
-μ-loop2 table events s set row end out₀ e₀ out e = events - e
+μ-loop2 table events s set out₀ e₀ out e = events - e
 
-cast-row : tie.Need-cast-row Inv-loop μ-loop Inv-loop2 μ-loop2
-cast-row c = search needs
-
-mul-row : tie.Need-mul-row Inv-loop μ-loop Inv-loop2 μ-loop2
-mul-row c = search (needs, product-fits)
-
-add-end : tie.Need-add-end Inv-loop μ-loop Inv-loop2 μ-loop2
-add-end c = search (needs, place-fits)
+place-requires : tie.Need-place-requires Inv-loop μ-loop Inv-loop2 μ-loop2
+place-requires c κs = search needs
 
 loop-holds : tie.Need-loop-holds Inv-loop μ-loop Inv-loop2 μ-loop2
-loop-holds c = (search needs, search needs, λ s q. moves-none _ _ s _)
+loop-holds c = (search needs, search needs, moves-none _ _ _ _)
 
-cast-t14 : tie.Need-cast-t14 Inv-loop μ-loop Inv-loop2 μ-loop2
-cast-t14 c = search needs
+place-requires-2 : tie.Need-place-requires-2 Inv-loop μ-loop Inv-loop2 μ-loop2
+place-requires-2 c κs = search needs
 
-add-t15 : tie.Need-add-t15 Inv-loop μ-loop Inv-loop2 μ-loop2
-add-t15 c = search (needs, place-fits)
-
-shared-slice-read-t17 : tie.Need-shared-slice-read-t17 Inv-loop μ-loop Inv-loop2 μ-loop2
-shared-slice-read-t17 c = omega arith
+shared-slice-read-t16 : tie.Need-shared-slice-read-t16 Inv-loop μ-loop Inv-loop2 μ-loop2
+shared-slice-read-t16 c = omega arith
 
 insert-requires : tie.Need-insert-requires Inv-loop μ-loop Inv-loop2 μ-loop2
 insert-requires c κs = search needs
@@ -54,7 +44,7 @@ loop-less : tie.Need-loop-less Inv-loop μ-loop Inv-loop2 μ-loop2
 loop-less c = search needs
 
 loop-again : tie.Need-loop-again Inv-loop μ-loop Inv-loop2 μ-loop2
-loop-again c = (search needs, search needs, λ s q. moves-read _ _ s _ _ _ _ _ (c .before .before .before .loop .inv .2 s q) q (search needs))
+loop-again c = (search needs, search needs, search (needs, moves-read))
 
 loop2-holds : tie.Need-loop2-holds Inv-loop μ-loop Inv-loop2 μ-loop2
 loop2-holds c = (search needs, moves-none _ _ _ _)
@@ -75,7 +65,7 @@ loop2-again : tie.Need-loop2-again Inv-loop μ-loop Inv-loop2 μ-loop2
 loop2-again c = (search needs, search (needs, moves-more))
 
 returns : tie.Need-returns Inv-loop μ-loop Inv-loop2 μ-loop2
-returns c = moves-all _ _ _ _ _ _ (search needs) (search needs) (c .before .loop .inv .2 _ refl)
+returns c = search (needs, moves-all)
 
 returns-2 : tie.Need-returns-2 Inv-loop μ-loop Inv-loop2 μ-loop2
 returns-2 c = search (needs, moves-all)
@@ -88,13 +78,10 @@ with-moves-spec =
     μ-loop
     Inv-loop2
     μ-loop2
-    cast-row
-    mul-row
-    add-end
+    place-requires
     loop-holds
-    cast-t14
-    add-t15
-    shared-slice-read-t17
+    place-requires-2
+    shared-slice-read-t16
     insert-requires
     add-e
     loop-less

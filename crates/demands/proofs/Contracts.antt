@@ -1,0 +1,166 @@
+-- What a caller learns of each public function, from the contract that is proved of it, is what the demands say of it: a line for each, and the gate looks
+-- that none is missing. So the demands are about the code that is built.
+-- Assumes nothing.
+use Prim.Native.Nat.{_-_}
+use mathlib.Core.Path.{_≡_}
+use lib.ListN.{length, take}
+use denote.Ref.{now}
+use Rattle.contracts.specs.Contract.{Keeps}
+use Rattle.octets.specs.Copies.{copied}
+use Rattle.octets.specs.Numbers as numbers
+use Rattle.octets.specs.Numbers.{digits}
+use Rattle.rule.specs.Sets.{has, including, Members}
+use Rattle.rule.specs.Reach.{placeOf, target, reachedWithin, reachedSets}
+use Rattle.rule.specs.Drawing.{body}
+use Rattle.rule.specs.Operations.{markOf, valueOf, smallestOf, operationsOf}
+use Rattle.rule.specs.Stopping.{stopsBy}
+use Rattle.rule.specs.Classes.{forbidsSome}
+use Rattle.rule.specs.Refusals.{toldOf, firstOf}
+use Rattle.checks.specs.Checked.{checkedOf}
+use Rattle.trailer.specs.Conditions.{framed, shapeConditions, headConditions}
+use Rattle.rulefile.specs.Reading.{partsOf, readingOf}
+use Rattle.rulefile.specs.Writing.{WritePromise}
+use Rattle.sheet.specs.Opening.{openedOf}
+use Rattle.making.specs.Making.{MakePromise}
+use Rattle.effects.specs.Effects.{freshRun, StorePromise, DumpPromise}
+use Rattle.monitor.specs.Fresh.{startOf}
+use Rattle.monitor.specs.Event.{EventPromise}
+use Rattle.printed.specs.Printing.{PrintPromise}
+use Rattle.pachallu.specs.Told.{MakeForC, FreshForC, EventForC}
+use Rattle.rulefile.proofs as rulefile
+use Rattle.reading.proofs as reading
+use Rattle.writing.proofs as writing
+use Rattle.making.proofs as making
+use Rattle.sheet.proofs as sheet
+use Rattle.monitor.proofs as monitor
+use Rattle.effects.proofs as effects
+use Rattle.printed.proofs as printed
+use Rattle.pachallu.proofs as pachallu
+use Rattle.trailer.proofs as trailer
+use Rattle.checks.proofs as checks
+use Rattle.classes.proofs as classes
+use Rattle.operations.proofs as operations
+use Rattle.reach.proofs as reach
+use Rattle.rule.proofs as rule
+use Rattle.octets.proofs as octets
+
+-- the rule file: looked at, read, written
+
+pub parts-keeps : Keeps rulefile.parts.ended rulefile.parts.Reads.Learnt λ κs a r l. r ≡ partsOf (now (a .0))
+parts-keeps κs a x = x .told
+
+pub read-keeps : Keeps reading.read.ended reading.read.Reads.Learnt λ κs a r l. r ≡ readingOf (now (a .0))
+read-keeps κs a x = x .told
+
+pub write-keeps : Keeps writing.write.ended writing.write.Reads.Learnt λ κs a r l. WritePromise (a .0) (now (a .1 .0)) r (l .1 .0)
+write-keeps κs a x = x .told
+
+-- the sheet: made, opened
+
+pub make-keeps : Keeps making.make.ended making.make.Reads.Learnt λ κs a r l. MakePromise (now (a .0)) (now (a .1 .0)) r (l .1 .0)
+make-keeps κs a x = x .told
+
+pub open-keeps : Keeps sheet.open.ended sheet.open.Reads.Learnt λ κs a r l. r ≡ openedOf (now (a .0))
+open-keeps κs a x = x .told
+
+-- the run: a fresh start, one event, and its operations
+
+pub fresh-keeps : Keeps monitor.fresh.ended monitor.fresh.Reads.Learnt λ κs a r l. r ≡ startOf (now (a .0))
+fresh-keeps κs a x = x .told
+
+pub event-keeps : Keeps monitor.event.ended monitor.event.Reads.Learnt λ κs a r l. EventPromise (now (a .0)) (a .1 .0) (a .1 .1 .0) (now (a .1 .1 .1 .0)) (now (a .1 .1 .1 .1 .0)) r (l .1 .1 .1 .0) (l .1 .1 .1 .1 .0)
+event-keeps κs a x = x .told
+
+pub Run-new-keeps : Keeps effects.Run.new.ended effects.Run.new.Reads.Learnt λ κs a r l. r ≡ freshRun (a .0)
+Run-new-keeps κs a x = x .told
+
+pub store-keeps : Keeps effects.store.ended effects.store.Reads.Learnt λ κs a r l. StorePromise (a .0) (a .1 .0) (a .1 .1 .0) (now (a .1 .1 .1 .0)) r (l .1 .1 .1 .0)
+store-keeps κs a x = x .told
+
+pub dump-keeps : Keeps effects.dump.ended effects.dump.Reads.Learnt λ κs a r l. DumpPromise (a .0) (now (a .1 .0)) (a .1 .1 .0) (now (a .1 .1 .1 .0)) r (l .1 .1 .1 .0)
+dump-keeps κs a x = x .told
+
+-- the printed monitor
+
+pub print-keeps : Keeps printed.print.ended printed.print.Reads.Learnt λ κs a r l. PrintPromise (now (a .0)) (now (a .1 .0)) r (l .1 .0)
+print-keeps κs a x = x .told
+
+-- the calls from C
+
+pub pachallu-make-keeps : Keeps pachallu.pachallu_make.ended pachallu.pachallu_make.Reads.Learnt λ κs a r l. MakeForC (now (a .0)) (now (a .1 .0)) r (l .1 .0)
+pachallu-make-keeps κs a x = x .told
+
+pub pachallu-fresh-keeps : Keeps pachallu.pachallu_fresh.ended pachallu.pachallu_fresh.Reads.Learnt λ κs a r l. FreshForC (now (a .0)) r
+pachallu-fresh-keeps κs a x = x .told
+
+pub pachallu-event-keeps : Keeps pachallu.pachallu_event.ended pachallu.pachallu_event.Reads.Learnt λ κs a r l. EventForC (now (a .0)) (a .1 .0) (a .1 .1 .0) (a .1 .1 .1 .0) (now (a .1 .1 .1 .1 .0)) (now (a .1 .1 .1 .1 .1 .0)) r (l .1 .1 .1 .1 .0) (l .1 .1 .1 .1 .1 .0)
+pachallu-event-keeps κs a x = x .told
+
+-- the checks that they are built of
+
+pub framed-keeps : Keeps trailer.framed.ended trailer.framed.Reads.Learnt λ κs a r l. r ≡ framed (now (a .0))
+framed-keeps κs a x = x .told
+
+pub shaped-keeps : Keeps trailer.shaped.ended trailer.shaped.Reads.Learnt λ κs a r l. r ≡ firstOf (shapeConditions (a .0) (a .1 .0))
+shaped-keeps κs a x = x .told
+
+pub headed-keeps : Keeps trailer.headed.ended trailer.headed.Reads.Learnt λ κs a r l. r ≡ firstOf (headConditions (a .0) (a .1 .0))
+headed-keeps κs a x = x .told
+
+pub checked-keeps : Keeps checks.checked.ended checks.checked.Reads.Learnt λ κs a r l. r ≡ checkedOf (a .0) (now (a .1 .0)) (a .1 .1 .0)
+checked-keeps κs a x = x .told
+
+pub banned-keeps : Keeps classes.banned.ended classes.banned.Reads.Learnt λ κs a r l. Members r (forbidsSome (a .0 .class) (take (a .0 .pairs) (a .1 .0)) (a .1 .1 .0 .0))
+banned-keeps κs a x = x .told
+
+-- what is computed of a rule
+
+pub value-keeps : Keeps operations.value.ended operations.value.Reads.Learnt λ κs a r l. r ≡ valueOf (a .0) (a .1 .0) (a .1 .1 .0 .0)
+value-keeps κs a x = x .told
+
+pub operation-keeps : Keeps operations.operation.ended operations.operation.Reads.Learnt λ κs a r l. r ≡ smallestOf (take (a .1 .0) (a .0)) (a .1 .1 .0) (a .1 .1 .1 .0 .0)
+operation-keeps κs a x = x .told
+
+pub into-states-keeps : Keeps operations.into_states.ended operations.into_states.Reads.Learnt λ κs a r l. r ≡ operationsOf (body (a .0) (now (a .1 .0)) (a .1 .1 .0))
+into-states-keeps κs a x = x .told
+
+pub stops-keeps : Keeps operations.stops.ended operations.stops.Reads.Learnt λ κs a r l. r ≡ stopsBy (a .0) (a .1 .0) (a .1 .1 .0 .0)
+stops-keeps κs a x = x .told
+
+pub contains-keeps : Keeps reach.sets.contains.ended reach.sets.contains.Reads.Learnt λ κs a r l. r ≡ has (a .0) (a .1 .0 .0)
+contains-keeps κs a x = x .told
+
+pub insert-keeps : Keeps reach.sets.insert.ended reach.sets.insert.Reads.Learnt λ κs a r l. r ≡ including (a .0) (a .1 .0 .0)
+insert-keeps κs a x = x .told
+
+pub next-keeps : Keeps reach.next.ended reach.next.Reads.Learnt λ κs a r l. r .0 ≡ target (now (a .0)) (a .1 .0) (a .1 .1 .0 .0) (a .1 .1 .1 .0 .0)
+next-keeps κs a x = x .told
+
+pub reached-within-keeps : Keeps reach.reached_within.ended reach.reached_within.Reads.Learnt λ κs a r l. r ≡ reachedWithin (now (a .0)) (a .1 .0) (a .1 .1 .0) (a .1 .1 .1 .0 .0) (a .1 .1 .1 .1 .0)
+reached-within-keeps κs a x = x .told
+
+pub reached-keeps : Keeps reach.reached.ended reach.reached.Reads.Learnt λ κs a r l. r ≡ reachedWithin (now (a .0)) (a .1 .0) (a .1 .1 .0) (a .1 .1 .1 .0 .0) (a .1 .0 - 1)
+reached-keeps κs a x = x .told
+
+pub reached-sets-keeps : Keeps reach.reached_sets.ended reach.reached_sets.Reads.Learnt λ κs a r l. r ≡ reachedSets (now (a .0)) (a .1 .0) (a .1 .1 .0) (a .1 .1 .1 .0) (a .1 .0)
+reached-sets-keeps κs a x = x .told
+
+-- numbers and places
+
+pub place-keeps : Keeps rule.place.ended rule.place.Reads.Learnt λ κs a r l. r ≡ placeOf (a .0) (a .1 .0 .0) (a .1 .1 .0 .0)
+place-keeps κs a x = x .told
+
+pub Operation-mark-keeps : Keeps rule.Operation.mark.ended rule.Operation.mark.Reads.Learnt λ κs a r l. r ≡ markOf (a .0)
+Operation-mark-keeps κs a x = x .told
+
+pub Refusal-told-keeps : Keeps rule.Refusal.told.ended rule.Refusal.told.Reads.Learnt λ κs a r l. r ≡ toldOf (a .0)
+Refusal-told-keeps κs a x = x .told
+
+pub copy-keeps : Keeps octets.copy.ended octets.copy.Reads.Learnt λ κs a r l. l .1 .0 ≡ copied (now (a .0)) (now (a .1 .0))
+copy-keeps κs a x = x .told
+
+pub number-keeps : Keeps octets.number.ended octets.number.Reads.Learnt λ κs a r l. r ≡ numbers.valueOf (take 8 (now (a .0)))
+number-keeps κs a x = x .told
+
+pub put-number-keeps : Keeps octets.put_number.ended octets.put_number.Reads.Learnt λ κs a r l. l .0 ≡ digits (length (now (a .0))) (a .1 .0)
+put-number-keeps κs a x = x .told

@@ -1,0 +1,84 @@
+-- DEMAND 1. Every rule file, sheet, code and buffer length gets a definite answer in finite time.
+-- A bad one is refused by number, the run stays where it was, and no lent byte changes.
+--
+-- That each call returns, whatever it is given, is proved of each function with its contract: none has a `requires`. Here, for each call: there is
+-- exactly one answer, with one content of each lent slice; how it ends (`Ends`, crate rule, specs/Given): it tells 0 where no row of the call's table holds,
+-- else the number and the places of the first row that does, in the call's order of checking; and what a refused call leaves.
+-- A refused event's answer has no run state: the caller keeps its own. From C it is told back.
+-- Assumes nothing: this is a statement. proofs/Demand1 proves it.
+use Prim.Native.Nat.{ℕ}
+use mathlib.Core.Path.{_≡_}
+use mathlib.Core.List.{List, []}
+use lib.ListN.{length}
+use Rattle.rule.specs.Drawing.{stateNo, eventNo, zeroRule}
+use Rattle.rule.specs.Refusals.{Numbered, firstOf, verdictTold}
+use Rattle.rule.specs.Given.{Ends}
+use Rattle.rule.specs.declared.StateNo.{StateNo}
+use Rattle.rule.specs.declared.EventNo.{EventNo}
+use Rattle.rule.specs.declared.Pair.{Pair}
+use Rattle.rule.specs.declared.Rule.{Rule}
+use Rattle.rule.specs.declared.Shape.{Shape}
+use Rattle.rule.specs.declared.Refusal.{Refusal}
+use Rattle.rule.specs.declared.Verdict.the-variants.{Refused as Unsound}
+use Rattle.checks.specs.Checked.{checkedOf, checkedOrder}
+use Rattle.trailer.specs.Conditions.{shapeConditions, shapeOrder, headConditions, headOrder}
+use Rattle.trailer.specs.declared.Trailer.{Trailer}
+use Rattle.rulefile.specs.Given.{Reading, readingOrder, Writing, writingOrder}
+use Rattle.rulefile.specs.Reading.{partsBy, partsOf, readingOf}
+use Rattle.rulefile.specs.Writing.{Held, WritePromise, OneWritten, writtenTold}
+use Rattle.rulefile.specs.declared.Written.{Written}
+use Rattle.making.specs.Given.{Making, makingOrder}
+use Rattle.making.specs.Making.{MakePromise}
+use Rattle.sheet.specs.Opening.{openedOf, openedTold}
+use Rattle.sheet.specs.declared.Opened.the-variants.{Refused as Shut}
+use Rattle.effects.specs.Effects.{freshRun, StorePromise, StoreTable, storeOrder, DumpPromise, DumpTable, dumpOrder, OneAnswer, answerTold}
+use Rattle.effects.specs.declared.Run.{Run}
+use Rattle.effects.specs.declared.Answer.{Answer}
+use Rattle.monitor.specs.Fresh.{startOf}
+use Rattle.monitor.specs.Event.{EventPromise}
+use Rattle.monitor.specs.Given.{FreshRow, freshOrder, EventRow, eventOrder}
+use Rattle.printed.specs.Printing.{PrintPromise, Printing, printingOrder}
+use Rattle.pachallu.specs.Told.{MakeForC, FreshForC, EventForC, runOf, madeTold, startedTold, answeredTold, MakeKept, FreshKept, EventKept}
+use Rattle.pachallu.specs.declared.Made.{Made}
+use Rattle.pachallu.specs.declared.Started.{Started}
+use Rattle.pachallu.specs.declared.Answered.{Answered}
+
+pub record Demand1 : Type 0 where
+  -- a rule file, looked at and read: 1 to 10; refused, 0 in every place
+  pub look : (f : List ℕ) → Ends (Reading f) readingOrder (verdictTold (partsOf f .verdict)) (partsOf f ≡ partsBy (partsOf f .verdict) [])
+  pub read : (f : List ℕ) → Ends (Reading f) readingOrder (verdictTold (readingOf f .verdict)) (readingOf f .rule ≡ zeroRule)
+  -- a rule, written: 2, 3, 4 for the note, 5 to 10, then 16; refused, the output as it was
+  pub one-write : (r : Rule) (out : List ℕ) → OneWritten (WritePromise r out)
+  pub write : (r : Rule) → Held r → (out : List ℕ) (w : Written) (out′ : List ℕ) → WritePromise r out w out′
+      → Ends (Writing r (length out)) writingOrder (writtenTold w) (out′ ≡ out)
+  -- a sheet, made: 1 to 10, then 16; refused, the output as it was
+  pub one-make : (f out : List ℕ) → OneWritten (MakePromise f out)
+  pub make : (f out : List ℕ) (w : Written) (out′ : List ℕ) → MakePromise f out w out′ → Ends (Making f (length out)) makingOrder (writtenTold w) (out′ ≡ out)
+  -- a sheet, opened, and a run started on it: 11; refused, state 0 with nothing held
+  pub opening : (sheet : List ℕ) → Ends (FreshRow sheet) freshOrder (openedTold (openedOf sheet)) (openedOf sheet ≡ Shut)
+  pub fresh : (sheet : List ℕ) → Ends (FreshRow sheet) freshOrder (verdictTold (startOf sheet .verdict)) (startOf sheet .run ≡ freshRun (stateNo 0))
+  -- one event: 11 to 16; refused, the memory and the output as they were
+  pub one-event : (sheet : List ℕ) (run : Run) (e : EventNo) (memory output : List ℕ) → OneAnswer (EventPromise sheet run e memory output)
+  pub event : (sheet : List ℕ) (run : Run) (e : EventNo) (memory output : List ℕ) (r : Answer) (memory′ output′ : List ℕ)
+      → EventPromise sheet run e memory output r memory′ output′
+      → Ends (EventRow sheet run e (length memory) (length output)) eventOrder (answerTold r) ((memory′ ≡ memory) × (output′ ≡ output))
+  -- its operations alone: a store 15, a dump 16; refused, the memory, or the output, as it was
+  pub store : (next : StateNo) (run : Run) (e : EventNo) (memory : List ℕ) (r : Answer) (memory′ : List ℕ) → StorePromise next run e memory r memory′
+      → Ends (StoreTable (run .held) (length memory)) storeOrder (answerTold r) (memory′ ≡ memory)
+  pub dump : (next : StateNo) (held : List ℕ) (e : EventNo) (output : List ℕ) (r : Answer) (output′ : List ℕ) → DumpPromise next held e output r output′
+      → Ends (DumpTable (length held) (length output)) dumpOrder (answerTold r) (output′ ≡ output)
+  -- a rule's monitor, printed: 16; refused, the output as it was
+  pub one-print : (f out : List ℕ) → OneWritten (PrintPromise f out)
+  pub print : (f out : List ℕ) (w : Written) (out′ : List ℕ) → PrintPromise f out w out′ → Ends (Printing f (length out)) printingOrder (writtenTold w) (out′ ≡ out)
+  -- from C the same three calls, told in numbers; refused, every buffer and the run state that was given are as they were
+  pub c-make : (rule out : List ℕ) (r : Made) (out′ : List ℕ) → MakeForC rule out r out′
+      → Ends (Making rule (length out)) makingOrder (madeTold r) (MakeKept out r out′)
+  pub c-fresh : (sheet : List ℕ) (r : Started) → FreshForC sheet r → Ends (FreshRow sheet) freshOrder (startedTold r) (FreshKept r)
+  pub c-event : (sheet : List ℕ) (state held event : ℕ) (memory output : List ℕ) (r : Answered) (memory′ output′ : List ℕ)
+      → EventForC sheet state held event memory output r memory′ output′
+      → Ends (EventRow sheet (runOf state held) (eventNo event) (length memory) (length output)) eventOrder (answeredTold r)
+      (EventKept state held memory output r memory′ output′)
+  -- the checks alone, of a shape, a trailer, and a table with its pairs, give no other number than these
+  pub shape : (s : Shape) (spare : ℕ) (x : Refusal) → firstOf (shapeConditions s spare) ≡ Unsound x → Numbered shapeOrder x
+  pub head : (t : Trailer) (size : ℕ) (x : Refusal) → firstOf (headConditions t size) ≡ Unsound x → Numbered headOrder x
+  pub check : (s : Shape) (table : List ℕ) (pairs : List Pair) (x : Refusal) → checkedOf s table pairs ≡ Unsound x → Numbered checkedOrder x

@@ -1,0 +1,72 @@
+-- How the calls from C end: each tells, in its three numbers, what the table of its call says, and a refused one leaves every buffer and the run state as it was.
+-- Assumes nothing.
+use Prim.Native.Nat.{ℕ}
+use mathlib.Core.Path.{_≡_, refl, ap}
+use mathlib.Core.List.{List}
+use lib.ListN.{length}
+use Rattle.rule.specs.Drawing.{stateNo, eventNo}
+use Rattle.rule.specs.Given.{Ends}
+use Rattle.rule.specs.Refusals.{verdictTold}
+use Rattle.rule.specs.declared.Verdict.{Verdict}
+use Rattle.rule.specs.declared.Verdict.the-variants.{Sound, Refused as Unsound}
+use Rattle.rulefile.specs.declared.Written.{Written}
+use Rattle.rulefile.specs.declared.Written.the-variants.{Done, Refused as Unwritten}
+use Rattle.making.specs.Making.{MakePromise}
+use Rattle.making.specs.Given.{Making, makingOrder}
+use Rattle.making.proofs.GivenLaws.{make-ends}
+use Rattle.monitor.specs.Event.{EventPromise}
+use Rattle.monitor.specs.Fresh.{startOf}
+use Rattle.monitor.specs.Given.{FreshRow, freshOrder, EventRow, eventOrder}
+use Rattle.monitor.proofs.FreshLaws.{fresh-ends}
+use Rattle.monitor.proofs.GivenLaws.{event-ends}
+use Rattle.effects.specs.Effects.{freshRun}
+use Rattle.effects.specs.declared.Run.{Run}
+use Rattle.effects.specs.declared.Answer.{Answer}
+use Rattle.effects.specs.declared.Answer.the-variants.{Taken, Refused}
+use Rattle.pachallu.specs.Told.{madeOf, MakeForC, startedOf, FreshForC, runOf, answeredOf, EventForC, madeTold, startedTold, answeredTold, MakeKept, FreshKept, EventKept}
+use Rattle.pachallu.specs.declared.Made.{Made}
+use Rattle.pachallu.specs.declared.Started.{Started}
+use Rattle.pachallu.specs.declared.Answered.{Answered}
+
+-- making a sheet
+pub c-make-ends : {rule out : List ℕ} {r : Made} {out′ : List ℕ} → MakeForC rule out r out′
+    → Ends (Making rule (length out)) makingOrder (madeTold r) (MakeKept out r out′)
+c-make-ends {rule} {out} {r} {out′} p = rw (p .told) (by (p .answer) (p .promise))
+  where
+    by : (w : Written) → MakePromise rule out w out′ → Ends (Making rule (length out)) makingOrder (madeTold (madeOf w)) (MakeKept out (madeOf w) out′)
+    by (Done n) q = record { tells = make-ends q .tells; rest = λ n. absurd (n refl) }
+    by (Unwritten x) q = record { tells = make-ends q .tells; rest = λ n. record { output-kept = make-ends q .rest n; written = refl } }
+
+-- a fresh start
+pub c-fresh-ends : {sheet : List ℕ} {r : Started} → FreshForC sheet r → Ends (FreshRow sheet) freshOrder (startedTold r) (FreshKept r)
+c-fresh-ends {sheet} p = rw p (by (startOf sheet .verdict) (startOf sheet .run) (fresh-ends sheet))
+  where
+    by : (v : Verdict) (run : Run) → Ends (FreshRow sheet) freshOrder (verdictTold v) (run ≡ freshRun (stateNo 0))
+        → Ends (FreshRow sheet) freshOrder (startedTold (startedOf v run)) (FreshKept (startedOf v run))
+    by Sound run e = record { tells = e .tells; rest = λ n. absurd (n refl) }
+    by (Unsound x) run e =
+        record {
+          tells = e .tells;
+          rest = λ n. record { state = ap (λ (q : Run). q .state .0) (e .rest n); held = ap (λ (q : Run). q .held) (e .rest n) };
+        }
+
+-- one event
+pub c-event-ends : {sheet : List ℕ} {state held event : ℕ} {memory output : List ℕ} {r : Answered} {memory′ output′ : List ℕ}
+    → EventForC sheet state held event memory output r memory′ output′
+    → Ends (EventRow sheet (runOf state held) (eventNo event) (length memory) (length output)) eventOrder (answeredTold r)
+    (EventKept state held memory output r memory′ output′)
+c-event-ends {sheet} {state} {held} {event} {memory} {output} {r} {memory′} {output′} p = rw (p .told) (by (p .answer) (p .promise))
+  where
+    by : (a : Answer) → EventPromise sheet (runOf state held) (eventNo event) memory output a memory′ output′
+        → Ends (EventRow sheet (runOf state held) (eventNo event) (length memory) (length output)) eventOrder (answeredTold (answeredOf a (runOf state held)))
+        (EventKept state held memory output (answeredOf a (runOf state held)) memory′ output′)
+    by (Taken o run k) q =
+        record { tells = event-ends sheet (runOf state held) (eventNo event) memory output q .tells; rest = λ n. absurd (n refl) }
+    by (Refused x) q =
+        let e = event-ends sheet (runOf state held) (eventNo event) memory output q in
+        record {
+          tells = e .tells;
+          rest = λ n.
+              let k = e .rest n in
+              record { memory-kept = k .0; output-kept = k .1; state-kept = refl; held-kept = refl; operation = refl; released = refl };
+        }
