@@ -26,7 +26,7 @@ use Rattle.effects.specs.Effects.{freshRun, StorePromise, DumpPromise}
 use Rattle.monitor.specs.Fresh.{startOf}
 use Rattle.monitor.specs.Event.{EventPromise}
 use Rattle.printed.specs.Printing.{PrintPromise}
-use Rattle.pachallu.specs.Told.{MakeForC, FreshForC, EventForC}
+use Rattle.pachallu.specs.Told.{MakeForC, PrintForC, FreshForC, EventForC}
 use Rattle.rulefile.proofs as rulefile
 use Rattle.reading.proofs as reading
 use Rattle.writing.proofs as writing
@@ -89,6 +89,9 @@ print-keeps κs a x = x .told
 
 pub pachallu-make-keeps : Keeps pachallu.pachallu_make.ended pachallu.pachallu_make.Reads.Learnt λ κs a r l. MakeForC (now (a .0)) (now (a .1 .0)) r (l .1 .0)
 pachallu-make-keeps κs a x = x .told
+
+pub pachallu-print-keeps : Keeps pachallu.pachallu_print.ended pachallu.pachallu_print.Reads.Learnt λ κs a r l. PrintForC (now (a .0)) (now (a .1 .0)) r (l .1 .0)
+pachallu-print-keeps κs a x = x .told
 
 pub pachallu-fresh-keeps : Keeps pachallu.pachallu_fresh.ended pachallu.pachallu_fresh.Reads.Learnt λ κs a r l. FreshForC (now (a .0)) r
 pachallu-fresh-keeps κs a x = x .told

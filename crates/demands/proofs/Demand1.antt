@@ -16,7 +16,7 @@ use Rattle.monitor.proofs.FreshLaws.{open-ends, fresh-ends}
 use Rattle.monitor.proofs.GivenLaws.{event-ends}
 use Rattle.printed.specs.Printing.{textOf}
 use Rattle.printed.proofs.GivenLaws.{print-ends}
-use Rattle.pachallu.proofs.EndsLaws.{c-make-ends, c-fresh-ends, c-event-ends}
+use Rattle.pachallu.proofs.EndsLaws.{c-put-ends, c-fresh-ends, c-event-ends}
 use Rattle.demands.specs.Demand1.{Demand1}
 
 pub demand-1 : Demand1
@@ -36,7 +36,8 @@ demand-1 =
       dump = λ next held e output r output′ p. dump-ends p;
       one-print = λ f out. put-one Sound (textOf f) out;
       print = λ f out w out′ p. print-ends f p;
-      c-make = λ rule out r out′ p. c-make-ends p;
+      c-make = λ rule out r out′ p. c-put-ends (λ w. make-ends) p;
+      c-print = λ rule out r out′ p. c-put-ends (λ w. print-ends rule) p;
       c-fresh = λ sheet r p. c-fresh-ends p;
       c-event = λ sheet state held event memory output r memory′ output′ p. c-event-ends p;
       shape = shape-gives;

@@ -38,7 +38,7 @@ use Rattle.monitor.specs.Fresh.{startOf}
 use Rattle.monitor.specs.Event.{EventPromise}
 use Rattle.monitor.specs.Given.{FreshRow, freshOrder, EventRow, eventOrder}
 use Rattle.printed.specs.Printing.{PrintPromise, Printing, printingOrder}
-use Rattle.pachallu.specs.Told.{MakeForC, FreshForC, EventForC, runOf, madeTold, startedTold, answeredTold, MakeKept, FreshKept, EventKept}
+use Rattle.pachallu.specs.Told.{MakeForC, PrintForC, FreshForC, EventForC, runOf, madeTold, startedTold, answeredTold, PutKept, FreshKept, EventKept}
 use Rattle.pachallu.specs.declared.Made.{Made}
 use Rattle.pachallu.specs.declared.Started.{Started}
 use Rattle.pachallu.specs.declared.Answered.{Answered}
@@ -70,9 +70,11 @@ pub record Demand1 : Type 0 where
   -- a rule's monitor, printed: 16; refused, the output as it was
   pub one-print : (f out : List ℕ) → OneWritten (PrintPromise f out)
   pub print : (f out : List ℕ) (w : Written) (out′ : List ℕ) → PrintPromise f out w out′ → Ends (Printing f (length out)) printingOrder (writtenTold w) (out′ ≡ out)
-  -- from C the same three calls, told in numbers; refused, every buffer and the run state that was given are as they were
+  -- from C the same calls, told in numbers; refused, every buffer and the run state that was given are as they were
   pub c-make : (rule out : List ℕ) (r : Made) (out′ : List ℕ) → MakeForC rule out r out′
-      → Ends (Making rule (length out)) makingOrder (madeTold r) (MakeKept out r out′)
+      → Ends (Making rule (length out)) makingOrder (madeTold r) (PutKept out r out′)
+  pub c-print : (rule out : List ℕ) (r : Made) (out′ : List ℕ) → PrintForC rule out r out′
+      → Ends (Printing rule (length out)) printingOrder (madeTold r) (PutKept out r out′)
   pub c-fresh : (sheet : List ℕ) (r : Started) → FreshForC sheet r → Ends (FreshRow sheet) freshOrder (startedTold r) (FreshKept r)
   pub c-event : (sheet : List ℕ) (state held event : ℕ) (memory output : List ℕ) (r : Answered) (memory′ output′ : List ℕ)
       → EventForC sheet state held event memory output r memory′ output′

@@ -5,15 +5,13 @@ use mathlib.Core.Path.{_≡_, refl, ap}
 use mathlib.Core.List.{List}
 use lib.ListN.{length}
 use Rattle.rule.specs.Drawing.{stateNo, eventNo}
-use Rattle.rule.specs.Given.{Ends}
+use Rattle.rule.specs.Given.{Table, Ends}
 use Rattle.rule.specs.Refusals.{verdictTold}
 use Rattle.rule.specs.declared.Verdict.{Verdict}
 use Rattle.rule.specs.declared.Verdict.the-variants.{Sound, Refused as Unsound}
 use Rattle.rulefile.specs.declared.Written.{Written}
 use Rattle.rulefile.specs.declared.Written.the-variants.{Done, Refused as Unwritten}
-use Rattle.making.specs.Making.{MakePromise}
-use Rattle.making.specs.Given.{Making, makingOrder}
-use Rattle.making.proofs.GivenLaws.{make-ends}
+use Rattle.rulefile.specs.Writing.{writtenTold}
 use Rattle.monitor.specs.Event.{EventPromise}
 use Rattle.monitor.specs.Fresh.{startOf}
 use Rattle.monitor.specs.Given.{FreshRow, freshOrder, EventRow, eventOrder}
@@ -23,19 +21,19 @@ use Rattle.effects.specs.Effects.{freshRun}
 use Rattle.effects.specs.declared.Run.{Run}
 use Rattle.effects.specs.declared.Answer.{Answer}
 use Rattle.effects.specs.declared.Answer.the-variants.{Taken, Refused}
-use Rattle.pachallu.specs.Told.{madeOf, MakeForC, startedOf, FreshForC, runOf, answeredOf, EventForC, madeTold, startedTold, answeredTold, MakeKept, FreshKept, EventKept}
+use Rattle.pachallu.specs.Told.{madeOf, PutForC, startedOf, FreshForC, runOf, answeredOf, EventForC, madeTold, startedTold, answeredTold, PutKept, FreshKept, EventKept}
 use Rattle.pachallu.specs.declared.Made.{Made}
 use Rattle.pachallu.specs.declared.Started.{Started}
 use Rattle.pachallu.specs.declared.Answered.{Answered}
 
--- making a sheet
-pub c-make-ends : {rule out : List ℕ} {r : Made} {out′ : List ℕ} → MakeForC rule out r out′
-    → Ends (Making rule (length out)) makingOrder (madeTold r) (MakeKept out r out′)
-c-make-ends {rule} {out} {r} {out′} p = rw (p .told) (by (p .answer) (p .promise))
+-- a call that puts bytes into an output, by how the call behind it ends
+pub c-put-ends : {T : Table} {order : List ℕ} {Promise : Written → List ℕ → Type 0} {out : List ℕ} {r : Made} {out′ : List ℕ}
+    → ((w : Written) → Promise w out′ → Ends T order (writtenTold w) (out′ ≡ out)) → PutForC Promise r out′ → Ends T order (madeTold r) (PutKept out r out′)
+c-put-ends {T} {order} {Promise} {out} {r} {out′} ends p = rw (p .told) (by (p .answer) (ends (p .answer) (p .promise)))
   where
-    by : (w : Written) → MakePromise rule out w out′ → Ends (Making rule (length out)) makingOrder (madeTold (madeOf w)) (MakeKept out (madeOf w) out′)
-    by (Done n) q = record { tells = make-ends q .tells; rest = λ n. absurd (n refl) }
-    by (Unwritten x) q = record { tells = make-ends q .tells; rest = λ n. record { output-kept = make-ends q .rest n; written = refl } }
+    by : (w : Written) → Ends T order (writtenTold w) (out′ ≡ out) → Ends T order (madeTold (madeOf w)) (PutKept out (madeOf w) out′)
+    by (Done n) e = record { tells = e .tells; rest = λ n. absurd (n refl) }
+    by (Unwritten x) e = record { tells = e .tells; rest = λ n. record { output-kept = e .rest n; written = refl } }
 
 -- a fresh start
 pub c-fresh-ends : {sheet : List ℕ} {r : Started} → FreshForC sheet r → Ends (FreshRow sheet) freshOrder (startedTold r) (FreshKept r)

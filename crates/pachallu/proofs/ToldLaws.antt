@@ -12,23 +12,21 @@ use Rattle.rule.specs.declared.Told.{Told}
 use Rattle.rule.specs.declared.Verdict.the-variants.{Sound, Refused as Unsound}
 use Rattle.rulefile.specs.declared.Written.{Written}
 use Rattle.rulefile.specs.declared.Written.the-variants.{Done, Refused as Unwritten}
-use Rattle.making.specs.Making.{MakePromise}
 use Rattle.monitor.specs.Fresh.{startOf}
 use Rattle.monitor.specs.Event.{EventPromise}
 use Rattle.effects.specs.declared.Run.{Run}
 use Rattle.monitor.specs.declared.Start.{Start}
 use Rattle.effects.specs.declared.Answer.{Answer}
 use Rattle.effects.specs.declared.Answer.the-variants.{Taken, Refused}
-use Rattle.pachallu.specs.Told.{MakeForC, FreshForC, EventForC, runOf}
+use Rattle.pachallu.specs.Told.{madeOf, FreshForC, EventForC, runOf}
 
--- making a sheet
-module _ {rule out out′ : List ℕ} {w : Written} where
-  pub made-done : {n : ℕ} → MakePromise rule out w out′ → w ≡ Done n → MakeForC rule out (record { refusal = 0; a = 0; b = 0; written = n }) out′
-  made-done p q = record { answer = w; promise = p; told = rw q }
+-- putting bytes
+pub made-done : {w : Written} {n : ℕ} → w ≡ Done n → record { refusal = 0; a = 0; b = 0; written = n } ≡ madeOf w
+made-done q = rw q
 
-  pub made-refused : {x : Refusal} {t : Told} → MakePromise rule out w out′ → w ≡ Unwritten x → t ≡ toldOf x
-      → MakeForC rule out (record { refusal = t .number; a = t .a; b = t .b; written = 0 }) out′
-  made-refused p q e = record { answer = w; promise = p; told = rw (q, e) }
+pub made-refused : {w : Written} {x : Refusal} {t : Told} → w ≡ Unwritten x → t ≡ toldOf x
+    → record { refusal = t .number; a = t .a; b = t .b; written = 0 } ≡ madeOf w
+made-refused q e = rw (q, e)
 
 -- a fresh start
 pub start-sound : (sheet : List ℕ) (s : Start) → s ≡ startOf sheet → s .verdict ≡ Sound

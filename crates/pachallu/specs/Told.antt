@@ -12,6 +12,7 @@ use Rattle.rule.specs.declared.Verdict.the-variants.{Sound, Refused as Unsound}
 use Rattle.rulefile.specs.declared.Written.{Written}
 use Rattle.rulefile.specs.declared.Written.the-variants.{Done, Refused as Unwritten}
 use Rattle.making.specs.Making.{MakePromise}
+use Rattle.printed.specs.Printing.{PrintPromise}
 use Rattle.monitor.specs.Fresh.{startOf}
 use Rattle.monitor.specs.Event.{EventPromise}
 use Rattle.effects.specs.declared.Run.{Run}
@@ -21,15 +22,22 @@ use Rattle.pachallu.specs.declared.Made.{Made}
 use Rattle.pachallu.specs.declared.Started.{Started}
 use Rattle.pachallu.specs.declared.Answered.{Answered}
 
--- making a sheet: 0 is "done"; a refused call has written nothing
+-- putting bytes into an output: 0 is "done"; a refused call has written nothing
 abbrev pub madeOf : Written → Made
 madeOf (Done n) = record { refusal = 0; a = 0; b = 0; written = n }
 madeOf (Unwritten r) = record { refusal = toldOf r .number; a = toldOf r .a; b = toldOf r .b; written = 0 }
 
-pub record MakeForC (rule out : List ℕ) (r : Made) (out′ : List ℕ) : Type 0 where
+pub record PutForC (Promise : Written → List ℕ → Type 0) (r : Made) (out′ : List ℕ) : Type 0 where
   pub answer : Written
-  pub promise : MakePromise rule out answer out′
+  pub promise : Promise answer out′
   pub told : r ≡ madeOf answer
+
+-- making a sheet, and printing a monitor
+abbrev pub MakeForC : List ℕ → List ℕ → Made → List ℕ → Type 0
+MakeForC rule sheet = PutForC (MakePromise rule sheet)
+
+abbrev pub PrintForC : List ℕ → List ℕ → Made → List ℕ → Type 0
+PrintForC rule text = PutForC (PrintPromise rule text)
 
 -- a fresh start
 abbrev pub startedOf : Verdict → Run → Started
@@ -75,7 +83,7 @@ abbrev pub answeredTold : Answered → Told
 answeredTold r = tell (r .refusal) (r .a) (r .b)
 
 -- what a refused call leaves: the output as it was and nothing written; state 0 with nothing held; the memory, the output and the run state as they were
-pub record MakeKept (out : List ℕ) (r : Made) (out′ : List ℕ) : Type 0 where
+pub record PutKept (out : List ℕ) (r : Made) (out′ : List ℕ) : Type 0 where
   pub output-kept : out′ ≡ out
   pub written : r .written ≡ 0
 

@@ -1,5 +1,6 @@
 // What C calls: numbers and byte slices. Each call is one of the house's, and its answer is told in numbers; include/pachallu.h declares them.
-ghost use Rattle.pachallu.specs.Told.{MakeForC, FreshForC, EventForC};
+ghost use mathlib.Core.Path.{_≡_};
+ghost use Rattle.pachallu.specs.Told.{madeOf, MakeForC, PrintForC, FreshForC, EventForC};
 use effects::Answer;
 use effects::Run;
 use rule::EventNo;
@@ -7,7 +8,7 @@ use rule::StateNo;
 use rule::Verdict;
 use rulefile::Written;
 
-// What making a sheet came to. A refusal of 0 is "done".
+// What making a sheet or printing a monitor came to. A refusal of 0 is "done".
 #[repr(C)]
 pub struct Made {
     pub refusal: u8,
@@ -38,12 +39,11 @@ pub struct Answered {
     pub released: usize,
 }
 
-// Makes the sheet of a rule file at the front of `sheet`: the refusals 1 to 10, then 16.
-#[no_mangle]
-pub extern "C" fn pachallu_make(rule: &[u8], sheet: &mut [u8]) -> Made
-    ensures { λ r. ⌜ MakeForC (now (rule .entry)) (now (sheet .entry)) r (now (sheet .exit)) ⌝ }
+// What came of putting bytes, told in numbers.
+fn made_of(written: Written) -> Made
+    ensures { λ r. ⌜ r ≡ madeOf written ⌝ }
 {
-    match making::make(rule, sheet) {
+    match written {
         Written::Done(written) => Made {
             refusal: 0,
             a: 0,
@@ -60,6 +60,22 @@ pub extern "C" fn pachallu_make(rule: &[u8], sheet: &mut [u8]) -> Made
             }
         }
     }
+}
+
+// Makes the sheet of a rule file at the front of `sheet`: the refusals 1 to 10, then 16.
+#[no_mangle]
+pub extern "C" fn pachallu_make(rule: &[u8], sheet: &mut [u8]) -> Made
+    ensures { λ r. ⌜ MakeForC (now (rule .entry)) (now (sheet .entry)) r (now (sheet .exit)) ⌝ }
+{
+    made_of(making::make(rule, sheet))
+}
+
+// Prints the monitor of a rule file, or its refusal, at the front of `text`: refusal 16 where it does not fit.
+#[no_mangle]
+pub extern "C" fn pachallu_print(rule: &[u8], text: &mut [u8]) -> Made
+    ensures { λ r. ⌜ PrintForC (now (rule .entry)) (now (text .entry)) r (now (text .exit)) ⌝ }
+{
+    made_of(printed::print(rule, text))
 }
 
 // Starts a run: refusal 11, and then state 0 with nothing held.
