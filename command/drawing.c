@@ -423,7 +423,7 @@ static void for_each_statement(struct reader *in, const struct tokens *tokens,
 }
 
 void drawing_read(const uint8_t *text, size_t len, struct drawing *d) {
-    struct tokens tokens;
+    struct tokens tokens = {NULL, 0, 0};
     struct reader in = {0};
     *d = (struct drawing){0};
     in.drawing = d;

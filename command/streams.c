@@ -25,15 +25,31 @@ void ready_streams(void) {
 
 /* ---- messages */
 
+/* Writes all bytes; errno of the write that failed, or 0. */
+static int write_all(int fd, const uint8_t *bytes, size_t len) {
+    while (len > 0) {
+        ssize_t done = write(fd, bytes, len);
+        if (done < 0 && errno == EINTR) continue;
+        if (done < 0) return errno;
+        bytes += done;
+        len -= (size_t)done;
+    }
+    return 0;
+}
+
+/* One write for a message, so that those of two programs do not run into each other. */
 void tell(const char *file, size_t line, const char *format, ...) {
+    char text[4096] = "pachallu: ";
+    size_t used = strlen(text), most = sizeof text - 1;
     va_list words;
-    fputs("pachallu: ", stderr);
-    if (file) fprintf(stderr, "%s: ", strcmp(file, "-") == 0 ? "standard input" : visible(file, strlen(file)));
-    if (line) fprintf(stderr, "line %zu: ", line);
+    if (file) used += (size_t)sprintf(text + used, "%s: ", strcmp(file, "-") == 0 ? "standard input" : visible(file, strlen(file)));
+    if (line) used += (size_t)sprintf(text + used, "line %zu: ", line);
     va_start(words, format);
-    vfprintf(stderr, format, words);
+    int len = vsnprintf(text + used, most - used, format, words);
     va_end(words);
-    fputc('\n', stderr);
+    used = len < 0 ? used : used + (size_t)len < most ? used + (size_t)len : most - 1;
+    text[used++] = '\n';
+    write_all(STDERR_FILENO, (const uint8_t *)text, used);
 }
 
 /* Characters with no ink, or that turn the writing round: the first and the last of each range. */
@@ -91,18 +107,6 @@ void *room_for(void *old, size_t size) {
 }
 
 /* ---- writing */
-
-/* Writes all bytes; errno of the write that failed, or 0. */
-static int write_all(int fd, const uint8_t *bytes, size_t len) {
-    while (len > 0) {
-        ssize_t done = write(fd, bytes, len);
-        if (done < 0 && errno == EINTR) continue;
-        if (done < 0) return errno;
-        bytes += done;
-        len -= (size_t)done;
-    }
-    return 0;
-}
 
 struct sink sink_to(int fd) {
     struct sink out = {fd, 0, NULL, 0, SINK_SIZE, false};

@@ -118,6 +118,7 @@ crates_seen() {
     seen=' '
     while IFS= read -r line; do
         case $line in
+        rt:\ *,*) continue ;;
         rt:\ *\ proved*) crate=${line#rt: } crate=${crate%% *} ;;
         *::*:\ proved) crate=${line#* } crate=${crate%%::*} ;;
         *) continue ;;
