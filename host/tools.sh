@@ -76,11 +76,11 @@ need_c() {
     ready_c || die "the packages were installed, but $linker ${emulator:+or $emulator }is still not found"
 }
 
-# need_graphviz: the command dot
+# need_graphviz: the commands dot and nop
 need_graphviz() {
-    has dot && return 0
+    has dot nop && return 0
     bring graphviz
-    has dot || die "the packages were installed, but dot is still not found"
+    has dot nop || die "the packages were installed, but dot or nop is still not found"
 }
 
 # need_rust: the same for Rust
