@@ -31,8 +31,8 @@
  * BUFFERS belong to the caller; the library keeps no pointer after a call, allocates nothing and frees nothing. Each buffer is a
  * pointer and its length in bytes.
  *   - The buffers of one call must not overlap, neither in part nor as a whole. (Several calls may use the same buffer.)
- *   - A pointer must not be NULL, even with length 0: pass any valid pointer then. A length of 0 is fine everywhere, and is
- *     answered by a refusal where bytes were needed.
+ *   - A buffer of length 0 is never touched, and its pointer may be NULL, as C++ callers have it (an empty vector's data()). A length of 0
+ *     is fine everywhere, and is answered by a refusal where bytes were needed. With any other length the pointer must be valid.
  *   - `const` buffers are only read.
  *   - Nothing outside of what an answer names is written: pachallu_make writes sheet[0] to sheet[written - 1]; a store writes the
  *     one byte memory[held] (held as it was given); a dump writes output[0] to output[released - 1]; a halt writes nothing.
