@@ -25,12 +25,15 @@ use Rattle.trailer.proofs.NumberLaws.{shape-gives, head-gives}
 use Rattle.rulefile.specs.Given.{readingOrder, writingOrder}
 use Rattle.rulefile.specs.Layout.{drawingIn, fileOf}
 use Rattle.rulefile.specs.Reading.{verdictOn, partsBy, partsOf, readingOf}
-use Rattle.rulefile.specs.Writing.{verdictOf, WritePromise, OneWritten}
-use Rattle.rulefile.specs.declared.Written.the-variants.{Refused as Unwritten}
-use Rattle.rulefile.proofs.AnswerLaws.{rule-gives, parts-zero, read-zero, put-refused, put-kept, put-one}
+use Rattle.rule.specs.Putting.{OneWritten}
+use Rattle.rulefile.specs.Writing.{verdictOf, WritePromise}
+use Rattle.rule.specs.declared.Written.the-variants.{Refused as Unwritten}
+use Rattle.rule.proofs.PutLaws.{put-numbered, put-kept, put-one}
+use Rattle.rulefile.proofs.AnswerLaws.{rule-gives, parts-zero, read-zero}
 use Rattle.rulefile.proofs.GivenLaws.{file-gives}
 use Rattle.making.specs.Given.{makingOrder}
-use Rattle.making.specs.Making.{sheetOf, MakePromise}
+use Rattle.sheet.specs.Layout.{sheetOf}
+use Rattle.making.specs.Making.{MakePromise}
 use Rattle.sheet.specs.Opening.{openedOf}
 use Rattle.monitor.specs.Fresh.{startOf}
 use Rattle.effects.specs.Effects.{freshRun, StorePromise, DumpPromise, OneAnswer}
@@ -95,12 +98,12 @@ demand-1 =
       read = λ f x p. let z = read-zero (verdictOn f) _ x p in (file-gives f x (z .0), z .1);
       write = λ r out. put-one (verdictOf r) (fileOf (drawn r)) out;
       write-refused = λ r out x out′ p. (
-        put-refused (verdictOf r) (rule-gives r) _ _ x (sym (p .answer)),
+        put-numbered (verdictOf r) (rule-gives r) _ _ x (sym (p .answer)),
         put-kept (verdictOf r) (fileOf (drawn r)) out x out′ p,
       );
       make = λ f out. put-one (verdictOn f) (sheetOf (drawingIn f)) out;
       make-refused = λ f out x out′ p. (
-        put-refused (verdictOn f) (file-gives f) _ _ x (sym (p .answer)),
+        put-numbered (verdictOn f) (file-gives f) _ _ x (sym (p .answer)),
         put-kept (verdictOn f) (sheetOf (drawingIn f)) out x out′ p,
       );
       fresh = λ sheet x p. start-refused (openedOf sheet) x p;

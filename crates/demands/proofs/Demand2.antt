@@ -25,20 +25,21 @@ use Rattle.rule.proofs.ConstructionLaws.{published-moves, published-stops}
 use Rattle.rulefile.specs.Layout.{drawingIn, fileOf}
 use Rattle.rulefile.specs.Reading.{verdictOn, readingOf}
 use Rattle.rulefile.specs.Writing.{verdictOf, WritePromise, Held}
-use Rattle.rulefile.specs.declared.Written.{Written}
-use Rattle.rulefile.specs.declared.Written.the-variants.{Done, Refused}
-use Rattle.rulefile.proofs.AnswerLaws.{put-done}
+use Rattle.rule.specs.declared.Written.{Written}
+use Rattle.rule.specs.declared.Written.the-variants.{Done, Refused}
+use Rattle.rule.proofs.PutLaws.{put-done}
 use Rattle.rulefile.proofs.PartsLaws.{sound-file}
 use Rattle.rulefile.proofs.WellLaws.{file-shaped, file-pairs, file-well}
 use Rattle.rulefile.proofs.RoundTrips.{read-written, written-read, same-rule}
 use Rattle.making.specs.Given.{makingOrder, Making}
-use Rattle.making.specs.Making.{sheetOf, MakePromise}
+use Rattle.sheet.specs.Layout.{sheetOf}
+use Rattle.making.specs.Making.{MakePromise}
 use Rattle.sheet.specs.Opening.{openedOf}
 use Rattle.sheet.specs.declared.Opened.the-variants.{Sheet}
 use Rattle.making.proofs.MakingLaws.{sheet-opens, cell-next, cell-operation}
 use Rattle.making.proofs.FoundLaws.{sound-formed}
 use Rattle.making.proofs.GivenLaws.{make-gives, make-done}
-use Rattle.monitor.specs.Event.{operationOf}
+use Rattle.sheet.specs.Layout.{operationOf}
 use Rattle.history.proofs.HistoryLaws.{mark-back}
 use Rattle.demands.specs.Made.{Made}
 

@@ -19,10 +19,10 @@ use Rattle.rule.specs.declared.Operation.the-variants.{Halt}
 use Rattle.rule.proofs.OperationLaws.{laws, sharp, accepts-machine}
 use Rattle.rulefile.specs.Layout.{drawingIn}
 use Rattle.rulefile.specs.Reading.{verdictOn}
-use Rattle.rulefile.proofs.AnswerLaws.{put-done}
+use Rattle.rule.proofs.PutLaws.{put-done}
 use Rattle.rulefile.proofs.PartsLaws.{sound-file}
 use Rattle.rulefile.proofs.WellLaws.{file-well}
-use Rattle.making.specs.Making.{sheetOf}
+use Rattle.sheet.specs.Layout.{sheetOf}
 use Rattle.making.proofs.MakingLaws.{sheet-opens, sheet-cell}
 use Rattle.making.proofs.FoundLaws.{sound-formed}
 use Rattle.effects.specs.Effects.{answerIn}

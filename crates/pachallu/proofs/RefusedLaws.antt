@@ -6,11 +6,12 @@ use mathlib.Core.List.{List}
 use Rattle.rule.specs.Drawing.{eventNo}
 use Rattle.rulefile.specs.Layout.{drawingIn}
 use Rattle.rulefile.specs.Reading.{verdictOn}
-use Rattle.rulefile.specs.declared.Written.{Written}
-use Rattle.rulefile.specs.declared.Written.the-variants.{Done, Refused as Unwritten}
+use Rattle.rule.specs.declared.Written.{Written}
+use Rattle.rule.specs.declared.Written.the-variants.{Done, Refused as Unwritten}
 use Rattle.rulefile.proofs.GivenLaws.{file-gives}
-use Rattle.rulefile.proofs.AnswerLaws.{put-refused, put-kept}
-use Rattle.making.specs.Making.{sheetOf, MakePromise}
+use Rattle.rule.proofs.PutLaws.{put-numbered, put-kept}
+use Rattle.sheet.specs.Layout.{sheetOf}
+use Rattle.making.specs.Making.{MakePromise}
 use Rattle.monitor.specs.Event.{turnOf, EventPromise}
 use Rattle.effects.specs.declared.Answer.{Answer}
 use Rattle.effects.specs.declared.Answer.the-variants.{Taken, Refused}
@@ -32,7 +33,7 @@ make-kept {rule} {out} {r} {out′} p n = by (p .answer) (p .promise) (p .told)
           written = ap (λ (x : Made). x .written) t;
           cause = x;
           told = ap (λ (x : Made). x .refusal) t;
-          number = put-refused (verdictOn rule) (file-gives rule) _ _ x (sym (q .answer));
+          number = put-numbered (verdictOn rule) (file-gives rule) _ _ x (sym (q .answer));
         }
 
 -- one event

@@ -20,8 +20,8 @@ use Rattle.rule.proofs.RefusalLaws.{sound-or}
 use Rattle.rulefile.specs.Layout.{drawingIn}
 use Rattle.rulefile.specs.Reading.{verdictOn, partsOf}
 use Rattle.rulefile.specs.declared.Contents.{Contents}
-use Rattle.rulefile.specs.declared.Written.{Written}
-use Rattle.rulefile.specs.declared.Written.the-variants.{Done, Refused}
+use Rattle.rule.specs.declared.Written.{Written}
+use Rattle.rule.specs.declared.Written.the-variants.{Done, Refused}
 use Rattle.rulefile.proofs.WellLaws.{file-well}
 use Rattle.rulefile.proofs.PartsLaws.{SoundFile, sound-file, shape-drawn, SoundParts, sound-parts, parts-verdict}
 use Rattle.printed.specs.Placing.{Room, pasted, Put}

@@ -9,9 +9,9 @@ use lib.ListN.{length}
 use lib.Dec.{leb}
 use Rattle.rule.specs.declared.Refusal.{Refusal}
 use Rattle.rule.specs.declared.Refusal.the-variants.{Room}
-use Rattle.rulefile.specs.Writing.{outputBy}
-use Rattle.rulefile.specs.declared.Written.{Written}
-use Rattle.rulefile.specs.declared.Written.the-variants.{Done, Refused}
+use Rattle.rule.specs.Putting.{outputBy}
+use Rattle.rule.specs.declared.Written.{Written}
+use Rattle.rule.specs.declared.Written.the-variants.{Done, Refused}
 use Rattle.printed.specs.Printing.{textOf, PrintPromise}
 
 -- it is 16, and the output is as it was

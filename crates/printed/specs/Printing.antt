@@ -19,9 +19,9 @@ use Rattle.rule.specs.declared.Verdict.{Verdict}
 use Rattle.rule.specs.declared.Verdict.the-variants.{Sound, Refused as Unsound}
 use Rattle.rulefile.specs.Layout.{drawingIn, flatUpTo}
 use Rattle.rulefile.specs.Reading.{verdictOn}
-use Rattle.rulefile.specs.Writing.{outputBy}
-use Rattle.rulefile.specs.declared.Written.{Written}
-use Rattle.rulefile.specs.declared.Written.the-variants.{Done, Refused}
+use Rattle.rule.specs.Putting.{outputBy}
+use Rattle.rule.specs.declared.Written.{Written}
+use Rattle.rule.specs.declared.Written.the-variants.{Done, Refused}
 use Rattle.printed.specs.Text.{decimal, line}
 
 -- the words rule, stop, refused, -

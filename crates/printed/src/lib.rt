@@ -14,7 +14,7 @@ use rule::Pair;
 use rule::Refusal;
 use rule::Shape;
 use rule::Verdict;
-use rulefile::Written;
+use rule::Written;
 
 // Prints the monitor of a sound rule to the front of the output.
 fn put_monitor(out: &mut [u8], shape: Shape, table: &[u8], pairs: [Pair; 8]) -> usize

@@ -4,7 +4,7 @@ ghost use lib.ListN.{length};
 use crate::script::find;
 use effects::Run;
 use rule::Refusal;
-use rulefile::Written;
+use rule::Written;
 
 // The words, ten bytes for each: a space, the word and spaces. First stand the operations, by their numbers in a sheet.
 const WORDS: [u8; 160] =
