@@ -23,7 +23,9 @@ use Rattle.rulefile.specs.Reading.{partsOf, readingOf}
 use Rattle.rulefile.specs.Writing.{WritePromise}
 use Rattle.sheet.specs.Opening.{openedOf}
 use Rattle.making.specs.Making.{MakePromise}
-use Rattle.effects.specs.Effects.{freshRun, StorePromise, DumpPromise}
+use Rattle.effects.specs.Effects.{freshRun, answerIn, StorePromise, DumpPromise}
+use Rattle.effects.specs.declared.Turn.the-variants.{Move}
+use Rattle.rule.specs.declared.Operation.the-variants.{Halt}
 use Rattle.monitor.specs.Fresh.{startOf}
 use Rattle.monitor.specs.Event.{EventPromise}
 use Rattle.printed.specs.Printing.{PrintPromise}
@@ -74,6 +76,9 @@ event-keeps κs a x = x .told
 
 pub Run-new-keeps : Keeps effects.Run.new.ended effects.Run.new.Reads.Learnt λ κs a r l. r ≡ freshRun (a .0)
 Run-new-keeps κs a x = x .told
+
+pub halt-keeps : Keeps effects.halt.ended effects.halt.Reads.Learnt λ κs a r l. r ≡ answerIn (Move Halt (a .0)) (a .1 .0 .held)
+halt-keeps κs a x = x .told
 
 pub store-keeps : Keeps effects.store.ended effects.store.Reads.Learnt λ κs a r l. StorePromise (a .0) (a .1 .0) (a .1 .1 .0) (now (a .1 .1 .1 .0)) r (l .1 .1 .1 .0)
 store-keeps κs a x = x .told

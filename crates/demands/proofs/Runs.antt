@@ -15,9 +15,10 @@ use Rattle.rule.specs.Range.{inRange}
 use Rattle.rule.specs.Refusals.{firstOf, firstBelow, firstCell, entries, members, exceeds, excess, moves, stopped, empties}
 use Rattle.rule.specs.declared.Verdict.the-variants.{Sound}
 use Rattle.trailer.specs.Conditions.{framed, classed, ranged, placed}
-use Rattle.rulefile.specs.Layout.{trailerOf, upTo, drawingIn, flatUpTo, trailerOut, fileOf}
+use Rattle.trailer.specs.Layout.{trailerOf, trailerOut}
+use Rattle.rulefile.specs.Layout.{upTo, drawingIn, flatUpTo, fileOf}
 use Rattle.rulefile.specs.Reading.{verdictOn}
-use Rattle.making.specs.Making.{sheetOf}
+use Rattle.sheet.specs.Layout.{sheetOf}
 use Rattle.sheet.specs.Opening.{opens, openedOf}
 use Rattle.monitor.specs.Event.{cellTurn, lookOf}
 use Rattle.history.specs.History.{History, call}

@@ -25,8 +25,9 @@ use Rattle.trailer.specs.Conditions.{shapeConditions, shapeOrder, headCondition
 use Rattle.trailer.specs.declared.Trailer.{Trailer}
 use Rattle.rulefile.specs.Given.{Reading, readingOrder, Writing, writingOrder}
 use Rattle.rulefile.specs.Reading.{partsBy, partsOf, readingOf}
-use Rattle.rulefile.specs.Writing.{Held, WritePromise, OneWritten, writtenTold}
-use Rattle.rulefile.specs.declared.Written.{Written}
+use Rattle.rule.specs.Putting.{OneWritten, writtenTold}
+use Rattle.rulefile.specs.Writing.{Held, WritePromise}
+use Rattle.rule.specs.declared.Written.{Written}
 use Rattle.making.specs.Given.{Making, makingOrder}
 use Rattle.making.specs.Making.{MakePromise}
 use Rattle.sheet.specs.Opening.{openedOf, openedTold}

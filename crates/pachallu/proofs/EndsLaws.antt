@@ -9,9 +9,9 @@ use Rattle.rule.specs.Given.{Table, Ends}
 use Rattle.rule.specs.Refusals.{verdictTold}
 use Rattle.rule.specs.declared.Verdict.{Verdict}
 use Rattle.rule.specs.declared.Verdict.the-variants.{Sound, Refused as Unsound}
-use Rattle.rulefile.specs.declared.Written.{Written}
-use Rattle.rulefile.specs.declared.Written.the-variants.{Done, Refused as Unwritten}
-use Rattle.rulefile.specs.Writing.{writtenTold}
+use Rattle.rule.specs.declared.Written.{Written}
+use Rattle.rule.specs.declared.Written.the-variants.{Done, Refused as Unwritten}
+use Rattle.rule.specs.Putting.{writtenTold}
 use Rattle.monitor.specs.Event.{EventPromise}
 use Rattle.monitor.specs.Fresh.{startOf}
 use Rattle.monitor.specs.Given.{FreshRow, freshOrder, EventRow, eventOrder}

@@ -6,7 +6,7 @@ use effects::Run;
 use rule::EventNo;
 use rule::StateNo;
 use rule::Verdict;
-use rulefile::Written;
+use rule::Written;
 
 // What making a sheet or printing a monitor came to. A refusal of 0 is "done".
 #[repr(C)]

@@ -20,8 +20,10 @@ use Rattle.rule.specs.declared.Refusal.the-variants.{Frame, Range, Distance}
 use Rattle.rule.specs.declared.Verdict.the-variants.{Sound, Refused}
 use Rattle.rule.proofs.SetLaws.{below-or}
 use Rattle.rule.proofs.TableLaws.{NoneOf, own-row, behind}
-use Rattle.trailer.specs.Conditions.{tableBack, pairsBack, framed, classed, ranged, placed}
-use Rattle.rulefile.specs.Layout.{trailerOf, trailerIn, upTo, flatUpTo, drawingIn, trailerOut, fileOf}
+use Rattle.trailer.specs.Layout.{tableBack, pairsBack}
+use Rattle.trailer.specs.Conditions.{framed, classed, ranged, placed}
+use Rattle.trailer.specs.Layout.{trailerOf, trailerIn, trailerOut}
+use Rattle.rulefile.specs.Layout.{upTo, flatUpTo, drawingIn, fileOf}
 use Rattle.rulefile.specs.Reading.{verdictOn, readingOf}
 use Rattle.rulefile.specs.Given.{bad-size, BadRange, bad-numbers, bad-m, byte-5, not-one, to-table, to-pairs, short}
 use Rattle.rulefile.specs.Given.{note, Reading, at-1, at-3, at-4, drawing}

@@ -19,9 +19,11 @@ use Rattle.rule.specs.declared.Pair.{Pair}
 use Rattle.rule.specs.declared.Shape.{Shape}
 use Rattle.rule.specs.declared.Verdict.the-variants.{Sound}
 use Rattle.rule.proofs.ClassLaws.{well-drawn}
-use Rattle.trailer.specs.Conditions.{pairsBack, tableBack, framed, placed}
+use Rattle.trailer.specs.Layout.{pairsBack, tableBack}
+use Rattle.trailer.specs.Conditions.{framed, placed}
 use Rattle.trailer.proofs.SoundLaws.{classed-says, ranged-says, cells-in}
-use Rattle.rulefile.specs.Layout.{trailerOf, trailerIn, upTo, pairIn, pairBytes, drawingIn, pairOut, pairsOut, trailerOut, fileOf}
+use Rattle.trailer.specs.Layout.{trailerOf, trailerIn, trailerOut}
+use Rattle.rulefile.specs.Layout.{upTo, pairIn, pairBytes, drawingIn, pairOut, pairsOut, fileOf}
 use Rattle.rulefile.specs.Reading.{verdictOn, readingOf}
 use Rattle.rulefile.proofs.ListLaws.{getD-upTo, flat-ext}
 use Rattle.rulefile.proofs.PartLaws.{drop-end, part-on, part-on-back, upTo-take, flat-take, flat-at}

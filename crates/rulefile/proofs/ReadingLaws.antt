@@ -17,10 +17,12 @@ use Rattle.rule.specs.declared.Refusal.{Refusal}
 use Rattle.rule.specs.declared.Refusal.the-variants.{Frame}
 use Rattle.rule.specs.declared.Verdict.{Verdict}
 use Rattle.rule.specs.declared.Verdict.the-variants.{Sound, Refused}
-use Rattle.trailer.specs.Conditions.{framed, frame, tableBack, headConditions}
+use Rattle.trailer.specs.Layout.{tableBack}
+use Rattle.trailer.specs.Conditions.{framed, frame, headConditions}
 use Rattle.trailer.specs.declared.Trailer.{Trailer}
 use Rattle.trailer.proofs.SoundLaws.{framed-says, Headed, Placed, headed-sound, cells-in}
-use Rattle.rulefile.specs.Layout.{trailerOf, trailerIn, pairIn, pairBytes, upTo, drawingIn}
+use Rattle.trailer.specs.Layout.{trailerOf, trailerIn}
+use Rattle.rulefile.specs.Layout.{pairIn, pairBytes, upTo, drawingIn}
 use Rattle.rulefile.specs.Reading.{verdictOn, partsBy, partsOf, readingBy, readingOf}
 use Rattle.rulefile.specs.declared.Contents.{Contents}
 use Rattle.rulefile.specs.declared.Reading.{Reading}

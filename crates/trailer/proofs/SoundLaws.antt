@@ -17,7 +17,8 @@ use Rattle.rule.specs.declared.Shape.{Shape}
 use Rattle.rule.specs.declared.Refusal.{Refusal}
 use Rattle.rule.specs.declared.Refusal.the-variants.{Class, Range, Distance}
 use Rattle.rule.specs.declared.Verdict.the-variants.{Sound}
-use Rattle.trailer.specs.Conditions.{framed, classed, ranged, placed, pairsBack, tableBack, headConditions}
+use Rattle.trailer.specs.Layout.{pairsBack, tableBack}
+use Rattle.trailer.specs.Conditions.{framed, classed, ranged, placed, headConditions}
 use Rattle.trailer.specs.declared.Trailer.{Trailer}
 
 -- a condition that is refused where its test fails

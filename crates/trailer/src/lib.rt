@@ -8,6 +8,13 @@ use rule::Rule;
 use rule::Shape;
 use rule::Verdict;
 
+// The bytes of the trailer, of a pair, and of the longest file.
+pub const SIZE: usize = 12;
+
+pub const PAIR: usize = 16;
+
+pub const LONGEST: usize = 3212;
+
 // What the last twelve bytes of a file say.
 pub struct Trailer {
     pub shape: Shape,
@@ -20,10 +27,10 @@ pub fn framed(file: &[u8]) -> bool
     ensures { λ r. ⌜ r ≡ Rattle.trailer.specs.Conditions.framed (now (file .entry)) ⌝ }
 {
     let len = file.len();
-    if len < 12 {
+    if len < SIZE {
         return false;
     }
-    if 3212 < len {
+    if LONGEST < len {
         return false;
     }
     if file[len - 2] != 72 {
@@ -64,7 +71,7 @@ fn placed(trailer: Trailer, len: usize) -> bool
     ensures { λ r. ⌜ r ≡ Rattle.trailer.specs.Conditions.placed trailer len ⌝ }
 {
     let shape = trailer.shape;
-    let pairs = 12 + 16 * (shape.pairs as usize);
+    let pairs = SIZE + PAIR * (shape.pairs as usize);
     let table = pairs + (shape.states as usize) * (shape.events as usize);
     if trailer.pairs != pairs {
         return false;
@@ -75,7 +82,7 @@ fn placed(trailer: Trailer, len: usize) -> bool
     if len < table {
         return false;
     }
-    len - table <= 1024
+    len - table <= Rule::NOTE
 }
 
 // The refusals 2 to 4 of a file of so many bytes.

@@ -12,7 +12,7 @@ use rule::Rule;
 use rule::Shape;
 use rule::StateNo;
 use rule::Verdict;
-use rulefile::Written;
+use rule::Written;
 
 // Reads a rule file, and where it is sound writes its rule again. A file that is the same is not printed.
 fn read(file: &[u8]) {

@@ -5,7 +5,7 @@ use crate::script::wide;
 use effects::Run;
 use rule::Operation;
 use rule::Refusal;
-use rulefile::Written;
+use rule::Written;
 
 pub(crate) fn say(word: &[u8]) {
     io::write_all(1, word);

@@ -5,7 +5,7 @@ use mathlib.Core.Path.{_∙_}
 use native.Mathlib.Omega.{arith}
 use lib.ListN.{drop}
 use Rattle.octets.proofs.NumberLaws.{valueOf-part}
-use Rattle.rulefile.specs.Layout.{trailerOf}
+use Rattle.trailer.specs.Layout.{trailerOf}
 use Rattle.rulefile.proofs.layout.trailer_of.Statement.{statement}
 use Rattle.rulefile.proofs.layout.trailer_of.Tie as tie
 
