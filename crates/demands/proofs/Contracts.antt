@@ -110,14 +110,14 @@ pachallu-event-keeps κs a x = x .told
 pub framed-keeps : Keeps trailer.framed.ended trailer.framed.Reads.Learnt λ κs a r l. r ≡ framed (now (a .0))
 framed-keeps κs a x = x .told
 
-pub shaped-keeps : Keeps trailer.shaped.ended trailer.shaped.Reads.Learnt λ κs a r l. r ≡ firstOf (shapeConditions (a .0))
-shaped-keeps κs a x = x .told
+pub check-shape-keeps : Keeps trailer.check_shape.ended trailer.check_shape.Reads.Learnt λ κs a r l. r ≡ firstOf (shapeConditions (a .0))
+check-shape-keeps κs a x = x .told
 
-pub headed-keeps : Keeps trailer.headed.ended trailer.headed.Reads.Learnt λ κs a r l. r ≡ firstOf (headConditions (a .0) (a .1 .0))
-headed-keeps κs a x = x .told
+pub check-trailer-keeps : Keeps trailer.check_trailer.ended trailer.check_trailer.Reads.Learnt λ κs a r l. r ≡ firstOf (headConditions (a .0) (a .1 .0))
+check-trailer-keeps κs a x = x .told
 
-pub checked-keeps : Keeps checks.checked.ended checks.checked.Reads.Learnt λ κs a r l. r ≡ checkedOf (a .0) (now (a .1 .0)) (a .1 .1 .0)
-checked-keeps κs a x = x .told
+pub check-body-keeps : Keeps checks.check_body.ended checks.check_body.Reads.Learnt λ κs a r l. r ≡ checkedOf (a .0) (now (a .1 .0)) (a .1 .1 .0)
+check-body-keeps κs a x = x .told
 
 pub banned-keeps : Keeps classes.banned.ended classes.banned.Reads.Learnt λ κs a r l. Members r (forbidsSome (a .0 .class) (take (a .0 .pairs) (a .1 .0)) (a .1 .1 .0 .0))
 banned-keeps κs a x = x .told

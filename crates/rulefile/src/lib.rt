@@ -35,7 +35,7 @@ pub fn parts(file: &[u8]) -> Contents
     }
     let len = file.len();
     let trailer = layout::trailer_of(&file[len - trailer::SIZE..]);
-    let verdict = trailer::headed(trailer, len);
+    let verdict = trailer::check_trailer(trailer, len);
     if let Verdict::Refused(refusal) = verdict {
         return layout::refused(refusal);
     }
@@ -43,7 +43,7 @@ pub fn parts(file: &[u8]) -> Contents
     let start = len - trailer.table;
     let end = len - trailer.pairs;
     let pairs = layout::pairs_of(&file[end..len - trailer::SIZE], shape.pairs);
-    let verdict = checks::checked(shape, &file[start..end], pairs);
+    let verdict = checks::check_body(shape, &file[start..end], pairs);
     if let Verdict::Refused(refusal) = verdict {
         return layout::refused(refusal);
     }

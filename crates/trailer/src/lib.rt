@@ -54,7 +54,7 @@ fn ranged(shape: Shape) -> bool
 }
 
 // The refusals 2 and 3.
-pub fn shaped(shape: Shape) -> Verdict
+pub fn check_shape(shape: Shape) -> Verdict
     ensures { λ r. ⌜ r ≡ firstOf (shapeConditions shape) ⌝ }
 {
     if !((1 <= shape.class) & (shape.class <= 4)) {
@@ -86,11 +86,11 @@ fn placed(trailer: Trailer, len: usize) -> bool
 }
 
 // The refusals 2 to 4 of a file of so many bytes.
-pub fn headed(trailer: Trailer, len: usize) -> Verdict
+pub fn check_trailer(trailer: Trailer, len: usize) -> Verdict
     ensures { λ r. ⌜ r ≡ firstOf (headConditions trailer len) ⌝ }
 {
     let shape = trailer.shape;
-    let verdict = shaped(shape);
+    let verdict = check_shape(shape);
     let Verdict::Sound = verdict else {
         return verdict;
     };

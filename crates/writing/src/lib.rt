@@ -15,13 +15,13 @@ use rule::Rule;
 use rule::Shape;
 use rule::Verdict;
 use rule::Written;
-use trailer::shaped;
+use trailer::check_shape;
 
 // The refusals 2 to 4 of a rule by value.
-fn measured(shape: Shape, length: usize) -> Verdict
+fn check_head(shape: Shape, length: usize) -> Verdict
     ensures { λ r. ⌜ r ≡ firstOf (measureConditions shape length) ⌝ }
 {
-    let verdict = shaped(shape);
+    let verdict = check_shape(shape);
     let Verdict::Sound = verdict else {
         return verdict;
     };
@@ -121,14 +121,14 @@ pub fn write(rule: Rule, out: &mut [u8]) -> Written
 {
     let shape = rule.shape;
     let length = rule.length;
-    let verdict = measured(shape, length);
+    let verdict = check_head(shape, length);
     if let Verdict::Refused(refusal) = verdict {
         return Written::Refused(refusal);
     }
     let cells = (shape.states as usize) * (shape.events as usize);
     let table = rule.table;
     let pairs = rule.pairs;
-    let verdict = checks::checked(shape, &table[..cells], pairs);
+    let verdict = checks::check_body(shape, &table[..cells], pairs);
     if let Verdict::Refused(refusal) = verdict {
         return Written::Refused(refusal);
     }

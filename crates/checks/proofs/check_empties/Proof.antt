@@ -1,4 +1,4 @@
--- `checks::empties` meets its contract: the pairs passed are sound.
+-- `checks::check_empties` meets its contract: the pairs passed are sound.
 -- Assumes nothing.
 use borrow.Author.Needs.{needs}
 use Prim.Native.Nat.{_-_, _≤_}
@@ -10,8 +10,8 @@ use Rattle.rule.specs.Refusals.{firstBelow, emptyAt}
 use Rattle.rule.specs.declared.Verdict.the-variants.{Sound}
 use Rattle.rule.proofs.RefusalLaws.{below-none}
 use Rattle.checks.proofs.CheckLaws.{empty-hit, empty-more, empties-all}
-use Rattle.checks.proofs.empties.Statement.{statement}
-use Rattle.checks.proofs.empties.Tie as tie
+use Rattle.checks.proofs.check_empties.Statement.{statement}
+use Rattle.checks.proofs.check_empties.Tie as tie
 
 abbrev Inv-loop : tie.InvT-loop
 Inv-loop shape pairs i₀ i-end i = (i ≤ i-end) × (i-end ≡ shape .pairs) × (firstBelow (emptyAt (body shape [] pairs)) i ≡ Sound)
@@ -40,8 +40,8 @@ loop-again c = (omega arith, search needs, search (needs, empty-more))
 returns-2 : tie.Need-returns-2 Inv-loop μ-loop
 returns-2 c = search (needs, empties-all)
 
-pub empties-spec : {M : Type 1} → statement M
-empties-spec =
+pub check-empties-spec : {M : Type 1} → statement M
+check-empties-spec =
     tie.close
     (tie.spec
     Inv-loop

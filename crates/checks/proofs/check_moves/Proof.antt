@@ -1,4 +1,4 @@
--- `checks::moves` meets its contract: the cells passed are sound, in this row and in the rows before.
+-- `checks::check_moves` meets its contract: the cells passed are sound, in this row and in the rows before.
 -- Assumes nothing.
 use borrow.Author.Needs.{needs}
 use Prim.Native.Nat.{_-_, _≤_}
@@ -9,8 +9,8 @@ use Rattle.rule.specs.Refusals.{firstBelow, firstCell}
 use Rattle.rule.specs.declared.Verdict.the-variants.{Sound}
 use Rattle.rule.proofs.RefusalLaws.{below-none, cells-none, cells-more}
 use Rattle.checks.proofs.CheckLaws.{moveOf, move-more, move-hit, moves-all, moves-four}
-use Rattle.checks.proofs.moves.Statement.{statement}
-use Rattle.checks.proofs.moves.Tie as tie
+use Rattle.checks.proofs.check_moves.Statement.{statement}
+use Rattle.checks.proofs.check_moves.Tie as tie
 
 abbrev Inv-loop : tie.InvT-loop
 Inv-loop shape table pairs states events verdict₀ s from set e₀ verdict e = (e ≤ events) × (verdict ≡ Sound) × (firstBelow (moveOf (shape .class) (take (shape .pairs) pairs) table events s) e ≡ Sound)
@@ -66,8 +66,8 @@ returns-2 c = search (needs, moves-all)
 returns-3 : tie.Need-returns-3 Inv-loop μ-loop Inv-rows μ-rows
 returns-3 c = search (needs, move-hit)
 
-pub moves-spec : {M : Type 1} → statement M
-moves-spec =
+pub check-moves-spec : {M : Type 1} → statement M
+check-moves-spec =
     tie.close
     (tie.spec
     Inv-loop

@@ -1,12 +1,12 @@
--- `checks::from_excess` meets its contract: the first refusal is here, or later.
+-- `checks::check_from_excess` meets its contract: the first refusal is here, or later.
 -- Assumes nothing.
 use borrow.Author.Needs.{needs}
 use Rattle.checks.proofs.CheckLaws.{excess-body, told-later, chain}
-use Rattle.checks.proofs.from_excess.Statement.{statement}
-use Rattle.checks.proofs.from_excess.Tie as tie
+use Rattle.checks.proofs.check_from_excess.Statement.{statement}
+use Rattle.checks.proofs.check_from_excess.Tie as tie
 
-excess-requires : tie.Need-excess-requires
-excess-requires c κs = search needs
+check-excess-requires : tie.Need-check-excess-requires
+check-excess-requires c κs = search needs
 
 enum-told : tie.Need-enum-told
 enum-told c = search needs
@@ -17,8 +17,8 @@ enum-told-2 c = search needs
 returns : tie.Need-returns
 returns c = search chain
 
-moves-requires : tie.Need-moves-requires
-moves-requires c κs = search needs
+check-moves-requires : tie.Need-check-moves-requires
+check-moves-requires c κs = search needs
 
 enum-told-3 : tie.Need-enum-told-3
 enum-told-3 c = search needs
@@ -29,8 +29,8 @@ enum-told-4 c = search needs
 returns-2 : tie.Need-returns-2
 returns-2 c = search chain
 
-stopped-requires : tie.Need-stopped-requires
-stopped-requires c κs = search needs
+check-stopped-requires : tie.Need-check-stopped-requires
+check-stopped-requires c κs = search needs
 
 enum-told-5 : tie.Need-enum-told-5
 enum-told-5 c = search needs
@@ -41,29 +41,29 @@ enum-told-6 c = search needs
 returns-3 : tie.Need-returns-3
 returns-3 c =
     let passed = c .before .before .before .before .before .before in
-    told-later _ (excess-body _ _ _ (passed .before .before .excess .ensures)) _ (passed .enum-told .given .1) (search chain)
+    told-later _ (excess-body _ _ _ (passed .before .before .check-excess .ensures)) _ (passed .enum-told .given .1) (search chain)
 
-empties-requires : tie.Need-empties-requires
-empties-requires c κs = search needs
+check-empties-requires : tie.Need-check-empties-requires
+check-empties-requires c κs = search needs
 
 returns-4 : tie.Need-returns-4
 returns-4 c = search chain
 
-pub from-excess-spec : {M : Type 1} → statement M
-from-excess-spec =
+pub check-from-excess-spec : {M : Type 1} → statement M
+check-from-excess-spec =
     tie.close
     (tie.spec
-    excess-requires
+    check-excess-requires
     enum-told
     enum-told-2
     returns
-    moves-requires
+    check-moves-requires
     enum-told-3
     enum-told-4
     returns-2
-    stopped-requires
+    check-stopped-requires
     enum-told-5
     enum-told-6
     returns-3
-    empties-requires
+    check-empties-requires
     returns-4)

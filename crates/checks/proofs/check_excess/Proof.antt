@@ -1,9 +1,9 @@
--- `checks::excess` meets its contract: one law for each return.
+-- `checks::check_excess` meets its contract: one law for each return.
 -- Assumes nothing.
 use borrow.Author.Needs.{needs}
 use Rattle.checks.proofs.CheckLaws.{excess-hit, excess-none}
-use Rattle.checks.proofs.excess.Statement.{statement}
-use Rattle.checks.proofs.excess.Tie as tie
+use Rattle.checks.proofs.check_excess.Statement.{statement}
+use Rattle.checks.proofs.check_excess.Tie as tie
 
 pair-at-requires : tie.Need-pair-at-requires
 pair-at-requires c κs = search needs
@@ -14,5 +14,5 @@ returns c = search (needs, excess-hit)
 returns-2 : tie.Need-returns-2
 returns-2 c = search (needs, excess-none)
 
-pub excess-spec : {M : Type 1} → statement M
-excess-spec = tie.close (tie.spec pair-at-requires returns returns-2)
+pub check-excess-spec : {M : Type 1} → statement M
+check-excess-spec = tie.close (tie.spec pair-at-requires returns returns-2)

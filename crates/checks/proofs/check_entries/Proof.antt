@@ -1,4 +1,4 @@
--- `checks::entries` meets its contract: the cells passed are sound, in this row and in the rows before.
+-- `checks::check_entries` meets its contract: the cells passed are sound, in this row and in the rows before.
 -- Assumes nothing.
 use borrow.Author.Needs.{needs}
 use Prim.Native.Nat.{_-_, _≤_}
@@ -8,8 +8,8 @@ use Rattle.rule.specs.Refusals.{firstBelow, firstCell}
 use Rattle.rule.specs.declared.Verdict.the-variants.{Sound}
 use Rattle.rule.proofs.RefusalLaws.{below-none, cells-none, cells-more}
 use Rattle.checks.proofs.CheckLaws.{entryOf, entry-more, entry-hit, entries-all}
-use Rattle.checks.proofs.entries.Statement.{statement}
-use Rattle.checks.proofs.entries.Tie as tie
+use Rattle.checks.proofs.check_entries.Statement.{statement}
+use Rattle.checks.proofs.check_entries.Tie as tie
 
 abbrev Inv-loop : tie.InvT-loop
 Inv-loop table states events verdict₀ s state e₀ verdict e = (e ≤ events) × (verdict ≡ Sound) × (firstBelow (entryOf table states events s) e ≡ Sound)
@@ -56,8 +56,8 @@ returns c = search (needs, entries-all)
 returns-2 : tie.Need-returns-2 Inv-loop μ-loop Inv-cells μ-cells
 returns-2 c = entry-hit _ _ _ _ (c .before .before .next .ensures) (search needs) (search needs) (c .if1 .taken) (search needs) (search needs)
 
-pub entries-spec : {M : Type 1} → statement M
-entries-spec =
+pub check-entries-spec : {M : Type 1} → statement M
+check-entries-spec =
     tie.close
     (tie.spec
     Inv-loop

@@ -1,4 +1,4 @@
--- `checks::stopped` meets its contract: the pairs passed are sound.
+-- `checks::check_stopped` meets its contract: the pairs passed are sound.
 -- Assumes nothing.
 use borrow.Author.Needs.{needs}
 use Prim.Native.Nat.{_-_, _≤_}
@@ -9,8 +9,8 @@ use Rattle.rule.specs.Refusals.{firstBelow, stopAt}
 use Rattle.rule.specs.declared.Verdict.the-variants.{Sound}
 use Rattle.rule.proofs.RefusalLaws.{below-none}
 use Rattle.checks.proofs.CheckLaws.{stop-hit, stop-more, stopped-all}
-use Rattle.checks.proofs.stopped.Statement.{statement}
-use Rattle.checks.proofs.stopped.Tie as tie
+use Rattle.checks.proofs.check_stopped.Statement.{statement}
+use Rattle.checks.proofs.check_stopped.Tie as tie
 
 abbrev Inv-loop : tie.InvT-loop
 Inv-loop shape table pairs reach i₀ i-end i = (i ≤ i-end) × (i-end ≡ shape .pairs) × (firstBelow (stopAt (body shape table pairs)) i ≡ Sound)
@@ -45,8 +45,8 @@ loop-again c = (omega arith, search needs, search (needs, stop-more))
 returns-2 : tie.Need-returns-2 Inv-loop μ-loop
 returns-2 c = search (needs, stopped-all)
 
-pub stopped-spec : {M : Type 1} → statement M
-stopped-spec =
+pub check-stopped-spec : {M : Type 1} → statement M
+check-stopped-spec =
     tie.close
     (tie.spec
     Inv-loop

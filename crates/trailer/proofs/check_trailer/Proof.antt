@@ -1,12 +1,12 @@
--- `trailer::headed` meets its contract: one law for each return.
+-- `trailer::check_trailer` meets its contract: one law for each return.
 -- Assumes nothing.
 use borrow.Author.Needs.{needs}
 use Rattle.trailer.proofs.HeadLaws.{third-told, third-refused, third-sound}
-use Rattle.trailer.proofs.headed.Statement.{statement}
-use Rattle.trailer.proofs.headed.Tie as tie
+use Rattle.trailer.proofs.check_trailer.Statement.{statement}
+use Rattle.trailer.proofs.check_trailer.Tie as tie
 
-shaped-requires : tie.Need-shaped-requires
-shaped-requires c κs = search needs
+check-shape-requires : tie.Need-check-shape-requires
+check-shape-requires c κs = search needs
 
 enum-told : tie.Need-enum-told
 enum-told c = search needs
@@ -26,7 +26,7 @@ returns-2 c = search (needs, third-refused)
 returns-3 : tie.Need-returns-3
 returns-3 c = search (needs, third-sound)
 
-pub headed-spec : {M : Type 1} → statement M
-headed-spec =
+pub check-trailer-spec : {M : Type 1} → statement M
+check-trailer-spec =
     tie.close
-    (tie.spec shaped-requires enum-told enum-told-2 returns placed-requires returns-2 returns-3)
+    (tie.spec check-shape-requires enum-told enum-told-2 returns placed-requires returns-2 returns-3)

@@ -1,4 +1,4 @@
--- `checks::members` meets its contract: the pairs passed are sound.
+-- `checks::check_members` meets its contract: the pairs passed are sound.
 -- Assumes nothing.
 use borrow.Author.Needs.{needs}
 use Prim.Native.Nat.{_-_, _≤_}
@@ -10,8 +10,8 @@ use Rattle.rule.specs.Refusals.{firstBelow, memberAt}
 use Rattle.rule.specs.declared.Verdict.the-variants.{Sound}
 use Rattle.rule.proofs.RefusalLaws.{below-none}
 use Rattle.checks.proofs.CheckLaws.{member-R, member-P, member-more, members-all}
-use Rattle.checks.proofs.members.Statement.{statement}
-use Rattle.checks.proofs.members.Tie as tie
+use Rattle.checks.proofs.check_members.Statement.{statement}
+use Rattle.checks.proofs.check_members.Tie as tie
 
 abbrev Inv-loop : tie.InvT-loop
 Inv-loop shape pairs i₀ i-end i = (i ≤ i-end) × (i-end ≡ shape .pairs) × (firstBelow (memberAt (body shape [] pairs)) i ≡ Sound)
@@ -49,8 +49,8 @@ loop-again c = (omega arith, search needs, search (needs, member-more))
 returns-3 : tie.Need-returns-3 Inv-loop μ-loop
 returns-3 c = search (needs, members-all)
 
-pub members-spec : {M : Type 1} → statement M
-members-spec =
+pub check-members-spec : {M : Type 1} → statement M
+check-members-spec =
     tie.close
     (tie.spec
     Inv-loop

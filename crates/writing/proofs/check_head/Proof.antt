@@ -1,13 +1,13 @@
--- `writing::measured` meets its contract: one law for each return.
+-- `writing::check_head` meets its contract: one law for each return.
 -- Assumes nothing.
 use borrow.Author.Needs.{needs}
 use Rattle.trailer.proofs.HeadLaws.{third-told}
 use Rattle.rulefile.proofs.WritingLaws.{note-too-long, note-fits}
-use Rattle.writing.proofs.measured.Statement.{statement}
-use Rattle.writing.proofs.measured.Tie as tie
+use Rattle.writing.proofs.check_head.Statement.{statement}
+use Rattle.writing.proofs.check_head.Tie as tie
 
-shaped-requires : tie.Need-shaped-requires
-shaped-requires c κs = search needs
+check-shape-requires : tie.Need-check-shape-requires
+check-shape-requires c κs = search needs
 
 enum-told : tie.Need-enum-told
 enum-told c = search needs
@@ -24,6 +24,6 @@ returns-2 c = search (needs, note-too-long)
 returns-3 : tie.Need-returns-3
 returns-3 c = search (needs, note-fits)
 
-pub measured-spec : {M : Type 1} → statement M
-measured-spec =
-    tie.close (tie.spec shaped-requires enum-told enum-told-2 returns returns-2 returns-3)
+pub check-head-spec : {M : Type 1} → statement M
+check-head-spec =
+    tie.close (tie.spec check-shape-requires enum-told enum-told-2 returns returns-2 returns-3)
