@@ -20,32 +20,8 @@ Inv-loop shape table pairs states sets operations₀ s₀ operations s = (s ≤ 
 abbrev μ-loop : tie.MeasureT-loop
 μ-loop shape table pairs states sets operations₀ s₀ operations s = shape .states - s
 
-reached-sets-requires : tie.Need-reached-sets-requires Inv-loop μ-loop
-reached-sets-requires c κs = search needs
-
 loop-holds : tie.Need-loop-holds Inv-loop μ-loop
 loop-holds c = (search needs, filled-none _ _, refl)
-
-cast-at : tie.Need-cast-at Inv-loop μ-loop
-cast-at c = search needs
-
-mul-operation : tie.Need-mul-operation Inv-loop μ-loop
-mul-operation c = search needs
-
-array-read-operation : tie.Need-array-read-operation Inv-loop μ-loop
-array-read-operation c = search needs
-
-operation-requires : tie.Need-operation-requires Inv-loop μ-loop
-operation-requires c κs = search needs
-
-array-set-from-operations : tie.Need-array-set-from-operations Inv-loop μ-loop
-array-set-from-operations c = search needs
-
-add-s : tie.Need-add-s Inv-loop μ-loop
-add-s c = search needs
-
-loop-less : tie.Need-loop-less Inv-loop μ-loop
-loop-less c = search needs
 
 loop-again : tie.Need-loop-again Inv-loop μ-loop
 loop-again c = (
@@ -63,14 +39,14 @@ into-states-spec =
     (tie.spec
     Inv-loop
     μ-loop
-    reached-sets-requires
+    (λ c κs. search needs)
     loop-holds
-    cast-at
-    mul-operation
-    array-read-operation
-    operation-requires
-    array-set-from-operations
-    add-s
-    loop-less
+    (λ c. search needs)
+    (λ c. search needs)
+    (λ c. search needs)
+    (λ c κs. search needs)
+    (λ c. search needs)
+    (λ c. search needs)
+    (λ c. search needs)
     loop-again
     returns)
