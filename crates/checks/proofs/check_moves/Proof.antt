@@ -13,13 +13,15 @@ use Rattle.checks.proofs.check_moves.Statement.{statement}
 use Rattle.checks.proofs.check_moves.Tie as tie
 
 abbrev Inv-loop : tie.InvT-loop
-Inv-loop shape table pairs states events verdict₀ s from set e₀ verdict e = (e ≤ events) × (verdict ≡ Sound) × (firstBelow (moveOf (shape .class) (take (shape .pairs) pairs) table events s) e ≡ Sound)
+Inv-loop shape table pairs states events verdict₀ s from set e₀ verdict e = (e ≤ events) × (verdict ≡ Sound)
+    × (firstBelow (moveOf (shape .class) (take (shape .pairs) pairs) table events s) e ≡ Sound)
 
 abbrev μ-loop : tie.MeasureT-loop
 μ-loop shape table pairs states events verdict₀ s from set e₀ verdict e = events - e
 
 abbrev Inv-rows : tie.InvT-rows
-Inv-rows shape table pairs states events verdict₀ s₀ verdict s = (s ≤ states) × (verdict ≡ Sound) × (firstCell (moveOf (shape .class) (take (shape .pairs) pairs) table events) s events ≡ Sound)
+Inv-rows shape table pairs states events verdict₀ s₀ verdict s = (s ≤ states) × (verdict ≡ Sound)
+    × (firstCell (moveOf (shape .class) (take (shape .pairs) pairs) table events) s events ≡ Sound)
 
 abbrev μ-rows : tie.MeasureT-rows
 μ-rows shape table pairs states events verdict₀ s₀ verdict s = states - s

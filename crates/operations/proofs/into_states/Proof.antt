@@ -15,7 +15,8 @@ use Rattle.operations.proofs.into_states.Statement.{statement}
 use Rattle.operations.proofs.into_states.Tie as tie
 
 abbrev Inv-loop : tie.InvT-loop
-Inv-loop shape table pairs states sets operations₀ s₀ operations s = (s ≤ shape .states) × (operations ≡ filled (operationAt (body shape table pairs)) (replicate 64 Halt) s) × (length operations ≡ 64)
+Inv-loop shape table pairs states sets operations₀ s₀ operations s = (s ≤ shape .states)
+    × (operations ≡ filled (operationAt (body shape table pairs)) (replicate 64 Halt) s) × (length operations ≡ 64)
 
 abbrev μ-loop : tie.MeasureT-loop
 μ-loop shape table pairs states sets operations₀ s₀ operations s = shape .states - s
@@ -26,7 +27,8 @@ loop-holds c = (search needs, filled-none _ _, refl)
 loop-again : tie.Need-loop-again Inv-loop μ-loop
 loop-again c = (
   search needs,
-  ⊎-elim (λ w. operations-more _ _ _ _ _ _ _ _ (c .before .before .before .reached-sets .ensures) (c .before .loop-test .taken) (w .0 .taken) (w .1 .ensures) (c .before .before .loop .inv .1) (w .2)) (λ w. search (needs, filled-past)) (c .if1 .came),
+  ⊎-elim (λ w. operations-more _ _ _ _ _ _ _ _ (c .before .before .before .reached-sets .ensures) (c .before .loop-test .taken) (w .0 .taken)
+      (w .1 .ensures) (c .before .before .loop .inv .1) (w .2)) (λ w. search (needs, filled-past)) (c .if1 .came),
   ⊎-elim (λ w. rw (w .2) (search (needs, length-set))) (λ w. rw (w .1) (search needs)) (c .if1 .came),
 )
 

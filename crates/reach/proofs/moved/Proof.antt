@@ -11,7 +11,8 @@ use Rattle.reach.proofs.moved.Statement.{statement}
 use Rattle.reach.proofs.moved.Tie as tie
 
 abbrev Inv-loop : tie.InvT-loop
-Inv-loop table states events from onto out₀ rest₀ passed₀ out rest passed = (passed ≤ 64) × (passed ≤ states) × (rest ≡ from / 2 ^ passed) × (out ≡ movedBelow table events from onto passed)
+Inv-loop table states events from onto out₀ rest₀ passed₀ out rest passed = (passed ≤ 64) × (passed ≤ states) × (rest ≡ from / 2 ^ passed)
+    × (out ≡ movedBelow table events from onto passed)
 
 abbrev μ-loop : tie.MeasureT-loop
 μ-loop table states events from onto out₀ rest₀ passed₀ out rest passed = 64 - passed

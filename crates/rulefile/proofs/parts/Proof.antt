@@ -3,7 +3,8 @@
 use borrow.Author.Needs.{needs}
 use mathlib.Core.Path.{_≡_, sym, _∙_}
 use Rattle.rulefile.specs.Reading.{verdictOn}
-use Rattle.rulefile.proofs.ReadingLaws.{frame-wrong, frame-long, trailer-long, head-wrong, table-in-file, pairs-in-file, table-before-pairs, pairs-before-trailer, pairs-few, pairs-whole, body-told, parts-refused, body-right}
+use Rattle.rulefile.proofs.ReadingLaws.{frame-wrong, frame-long, trailer-long, head-wrong, table-in-file, pairs-in-file}
+use Rattle.rulefile.proofs.ReadingLaws.{table-before-pairs, pairs-before-trailer, pairs-few, pairs-whole, body-told, parts-refused, body-right}
 use Rattle.rulefile.proofs.parts.Statement.{statement}
 use Rattle.rulefile.proofs.parts.Tie as tie
 
@@ -44,7 +45,9 @@ part-check-body-start : tie.Need-part-check-body-start
 part-check-body-start c = search (needs, table-before-pairs)
 
 -- what the checks came to is the verdict on the file
-told : (c : tie.After-check-body) → c .check-body .result ≡ verdictOn (c .before .before .before .before .before .before .before .before .before .before .before .before .before .before .before .args .file .now)
+told : (c : tie.After-check-body)
+    → c .check-body .result ≡ verdictOn (c .before .before .before .before .before .before .before .before .before .before .before .before .before
+    .before .before .args .file .now)
 told c = search (needs, body-told)
 
 returns-3 : tie.Need-returns-3

@@ -2,7 +2,8 @@
 -- Assumes nothing.
 use borrow.Author.Needs.{needs}
 use Rattle.rule.proofs.ByteLaws.{product-fits}
-use Rattle.rulefile.proofs.WritingLaws.{head-refused, pairs-few, note-in-array, note-taken, note-short, table-in-array, table-taken, table-short, body-refused, rule-put}
+use Rattle.rulefile.proofs.WritingLaws.{head-refused, pairs-few, note-in-array, note-taken, note-short}
+use Rattle.rulefile.proofs.WritingLaws.{table-in-array, table-taken, table-short, body-refused, rule-put}
 use Rattle.writing.proofs.write.Statement.{statement}
 use Rattle.writing.proofs.write.Tie as tie
 

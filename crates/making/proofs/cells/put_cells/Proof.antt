@@ -35,7 +35,8 @@ loop-again c = (search needs, search (needs, length-set), search (needs, cells-m
 returns : tie.Need-returns Inv-loop μ-loop
 returns c =
     let start = c .before .before .before .before in
-    cells-all (start .args .t3) (start .args .table .now) _ (start .args .out .now) (c .before .loop .i) (c .before .loop .inv .2) (start .pre .0) (search needs) (search needs)
+    cells-all (start .args .t3) (start .args .table .now) _ (start .args .out .now) (c .before .loop .i) (c .before .loop .inv .2) (start .pre .0)
+    (search needs) (search needs)
 
 pub put-cells-spec : {M : Type 1} → statement M
 put-cells-spec =
