@@ -71,7 +71,8 @@ open-keeps κs a x = x .told
 pub fresh-keeps : Keeps monitor.fresh.ended monitor.fresh.Reads.Learnt λ κs a r l. r ≡ startOf (now (a .0))
 fresh-keeps κs a x = x .told
 
-pub event-keeps : Keeps monitor.event.ended monitor.event.Reads.Learnt λ κs a r l. EventPromise (now (a .0)) (a .1 .0) (a .1 .1 .0) (now (a .1 .1 .1 .0)) (now (a .1 .1 .1 .1 .0)) r (l .1 .1 .1 .0) (l .1 .1 .1 .1 .0)
+pub event-keeps : Keeps monitor.event.ended monitor.event.Reads.Learnt λ κs a r l.
+    EventPromise (now (a .0)) (a .1 .0) (a .1 .1 .0) (now (a .1 .1 .1 .0)) (now (a .1 .1 .1 .1 .0)) r (l .1 .1 .1 .0) (l .1 .1 .1 .1 .0)
 event-keeps κs a x = x .told
 
 pub Run-new-keeps : Keeps effects.Run.new.ended effects.Run.new.Reads.Learnt λ κs a r l. r ≡ freshRun (a .0)
@@ -80,10 +81,12 @@ Run-new-keeps κs a x = x .told
 pub halt-keeps : Keeps effects.halt.ended effects.halt.Reads.Learnt λ κs a r l. r ≡ answerIn (Move Halt (a .0)) (a .1 .0 .held)
 halt-keeps κs a x = x .told
 
-pub store-keeps : Keeps effects.store.ended effects.store.Reads.Learnt λ κs a r l. StorePromise (a .0) (a .1 .0) (a .1 .1 .0) (now (a .1 .1 .1 .0)) r (l .1 .1 .1 .0)
+pub store-keeps : Keeps effects.store.ended effects.store.Reads.Learnt λ κs a r l.
+    StorePromise (a .0) (a .1 .0) (a .1 .1 .0) (now (a .1 .1 .1 .0)) r (l .1 .1 .1 .0)
 store-keeps κs a x = x .told
 
-pub dump-keeps : Keeps effects.dump.ended effects.dump.Reads.Learnt λ κs a r l. DumpPromise (a .0) (now (a .1 .0)) (a .1 .1 .0) (now (a .1 .1 .1 .0)) r (l .1 .1 .1 .0)
+pub dump-keeps : Keeps effects.dump.ended effects.dump.Reads.Learnt λ κs a r l.
+    DumpPromise (a .0) (now (a .1 .0)) (a .1 .1 .0) (now (a .1 .1 .1 .0)) r (l .1 .1 .1 .0)
 dump-keeps κs a x = x .told
 
 -- the printed monitor
@@ -96,13 +99,16 @@ print-keeps κs a x = x .told
 pub pachallu-make-keeps : Keeps pachallu.pachallu_make.ended pachallu.pachallu_make.Reads.Learnt λ κs a r l. MakeForC (now (a .0)) (now (a .1 .0)) r (l .1 .0)
 pachallu-make-keeps κs a x = x .told
 
-pub pachallu-print-keeps : Keeps pachallu.pachallu_print.ended pachallu.pachallu_print.Reads.Learnt λ κs a r l. PrintForC (now (a .0)) (now (a .1 .0)) r (l .1 .0)
+pub pachallu-print-keeps : Keeps pachallu.pachallu_print.ended pachallu.pachallu_print.Reads.Learnt λ κs a r l.
+    PrintForC (now (a .0)) (now (a .1 .0)) r (l .1 .0)
 pachallu-print-keeps κs a x = x .told
 
 pub pachallu-fresh-keeps : Keeps pachallu.pachallu_fresh.ended pachallu.pachallu_fresh.Reads.Learnt λ κs a r l. FreshForC (now (a .0)) r
 pachallu-fresh-keeps κs a x = x .told
 
-pub pachallu-event-keeps : Keeps pachallu.pachallu_event.ended pachallu.pachallu_event.Reads.Learnt λ κs a r l. EventForC (now (a .0)) (a .1 .0) (a .1 .1 .0) (a .1 .1 .1 .0) (now (a .1 .1 .1 .1 .0)) (now (a .1 .1 .1 .1 .1 .0)) r (l .1 .1 .1 .1 .0) (l .1 .1 .1 .1 .1 .0)
+pub pachallu-event-keeps : Keeps pachallu.pachallu_event.ended pachallu.pachallu_event.Reads.Learnt λ κs a r l.
+    EventForC (now (a .0)) (a .1 .0) (a .1 .1 .0) (a .1 .1 .1 .0) (now (a .1 .1 .1 .1 .0)) (now (a .1 .1 .1 .1 .1 .0)) r (l .1 .1 .1 .1 .0)
+    (l .1 .1 .1 .1 .1 .0)
 pachallu-event-keeps κs a x = x .told
 
 -- the checks that they are built of
@@ -119,7 +125,8 @@ check-trailer-keeps κs a x = x .told
 pub check-body-keeps : Keeps checks.check_body.ended checks.check_body.Reads.Learnt λ κs a r l. r ≡ checkedOf (a .0) (now (a .1 .0)) (a .1 .1 .0)
 check-body-keeps κs a x = x .told
 
-pub banned-keeps : Keeps classes.banned.ended classes.banned.Reads.Learnt λ κs a r l. Members r (forbidsSome (a .0 .class) (take (a .0 .pairs) (a .1 .0)) (a .1 .1 .0 .0))
+pub banned-keeps : Keeps classes.banned.ended classes.banned.Reads.Learnt λ κs a r l.
+    Members r (forbidsSome (a .0 .class) (take (a .0 .pairs) (a .1 .0)) (a .1 .1 .0 .0))
 banned-keeps κs a x = x .told
 
 -- what is computed of a rule
@@ -127,10 +134,12 @@ banned-keeps κs a x = x .told
 pub value-keeps : Keeps operations.value.ended operations.value.Reads.Learnt λ κs a r l. r ≡ valueOf (a .0) (a .1 .0) (a .1 .1 .0 .0)
 value-keeps κs a x = x .told
 
-pub operation-keeps : Keeps operations.operation.ended operations.operation.Reads.Learnt λ κs a r l. r ≡ smallestOf (take (a .1 .0) (a .0)) (a .1 .1 .0) (a .1 .1 .1 .0 .0)
+pub operation-keeps : Keeps operations.operation.ended operations.operation.Reads.Learnt λ κs a r l.
+    r ≡ smallestOf (take (a .1 .0) (a .0)) (a .1 .1 .0) (a .1 .1 .1 .0 .0)
 operation-keeps κs a x = x .told
 
-pub into-states-keeps : Keeps operations.into_states.ended operations.into_states.Reads.Learnt λ κs a r l. r ≡ operationsOf (body (a .0) (now (a .1 .0)) (a .1 .1 .0))
+pub into-states-keeps : Keeps operations.into_states.ended operations.into_states.Reads.Learnt λ κs a r l.
+    r ≡ operationsOf (body (a .0) (now (a .1 .0)) (a .1 .1 .0))
 into-states-keeps κs a x = x .told
 
 pub stops-keeps : Keeps operations.stops.ended operations.stops.Reads.Learnt λ κs a r l. r ≡ stopsBy (a .0) (a .1 .0) (a .1 .1 .0 .0)
@@ -145,13 +154,16 @@ insert-keeps κs a x = x .told
 pub next-keeps : Keeps reach.next.ended reach.next.Reads.Learnt λ κs a r l. r .0 ≡ target (now (a .0)) (a .1 .0) (a .1 .1 .0 .0) (a .1 .1 .1 .0 .0)
 next-keeps κs a x = x .told
 
-pub reached-within-keeps : Keeps reach.reached_within.ended reach.reached_within.Reads.Learnt λ κs a r l. r ≡ reachedWithin (now (a .0)) (a .1 .0) (a .1 .1 .0) (a .1 .1 .1 .0 .0) (a .1 .1 .1 .1 .0)
+pub reached-within-keeps : Keeps reach.reached_within.ended reach.reached_within.Reads.Learnt λ κs a r l.
+    r ≡ reachedWithin (now (a .0)) (a .1 .0) (a .1 .1 .0) (a .1 .1 .1 .0 .0) (a .1 .1 .1 .1 .0)
 reached-within-keeps κs a x = x .told
 
-pub reached-keeps : Keeps reach.reached.ended reach.reached.Reads.Learnt λ κs a r l. r ≡ reachedWithin (now (a .0)) (a .1 .0) (a .1 .1 .0) (a .1 .1 .1 .0 .0) (a .1 .0 - 1)
+pub reached-keeps : Keeps reach.reached.ended reach.reached.Reads.Learnt λ κs a r l.
+    r ≡ reachedWithin (now (a .0)) (a .1 .0) (a .1 .1 .0) (a .1 .1 .1 .0 .0) (a .1 .0 - 1)
 reached-keeps κs a x = x .told
 
-pub reached-sets-keeps : Keeps reach.reached_sets.ended reach.reached_sets.Reads.Learnt λ κs a r l. r ≡ reachedSets (now (a .0)) (a .1 .0) (a .1 .1 .0) (a .1 .1 .1 .0) (a .1 .0)
+pub reached-sets-keeps : Keeps reach.reached_sets.ended reach.reached_sets.Reads.Learnt λ κs a r l.
+    r ≡ reachedSets (now (a .0)) (a .1 .0) (a .1 .1 .0) (a .1 .1 .1 .0) (a .1 .0)
 reached-sets-keeps κs a x = x .told
 
 -- numbers and places

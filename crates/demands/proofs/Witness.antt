@@ -107,7 +107,8 @@ module _ {file sheet : List ℕ} (made : Made file sheet) where
         held = _;
         memory = _;
         history =
-            call (s .history) e eight (answeredOf (answerIn turn (s .held)) run) (memoryIn turn (s .held) e (s .memory)) (outputIn turn (s .held) e (s .memory) eight)
+            call (s .history) e eight (answeredOf (answerIn turn (s .held)) run) (memoryIn turn (s .held) e (s .memory))
+            (outputIn turn (s .held) e (s .memory) eight)
             (record { answer = answerIn turn (s .held); promise = record { answer = refl; memory-after = refl; output-after = refl }; told = refl });
       }
 

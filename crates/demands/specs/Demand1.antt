@@ -70,7 +70,8 @@ pub record Demand1 : Type 0 where
       → Ends (DumpTable (length held) (length output)) dumpOrder (answerTold r) (output′ ≡ output)
   -- a rule's monitor, printed: 16; refused, the output as it was
   pub one-print : (f out : List ℕ) → OneWritten (PrintPromise f out)
-  pub print : (f out : List ℕ) (w : Written) (out′ : List ℕ) → PrintPromise f out w out′ → Ends (Printing f (length out)) printingOrder (writtenTold w) (out′ ≡ out)
+  pub print : (f out : List ℕ) (w : Written) (out′ : List ℕ) → PrintPromise f out w out′
+      → Ends (Printing f (length out)) printingOrder (writtenTold w) (out′ ≡ out)
   -- from C the same calls, told in numbers; refused, every buffer and the run state that was given are as they were
   pub c-make : (rule out : List ℕ) (r : Made) (out′ : List ℕ) → MakeForC rule out r out′
       → Ends (Making rule (length out)) makingOrder (madeTold r) (PutKept out r out′)

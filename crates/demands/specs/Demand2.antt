@@ -56,7 +56,8 @@ pub record Demand2 (d : Drawing) (sheet : List ℕ) : Type 0 where
   pub stops : (q : ℕ) → q < states d → PublishedStop d q (d .shape .class) ↔ (stopping d q ≡ true)
   pub stays : (q e : ℕ) → q < states d → e < events d → PublishedStop d q (d .shape .class) → PublishedStop d (next d q e) (d .shape .class)
 
--- every rule that the table of refusals does not refuse has its sheet made, where there is room, and no other has; a refusal is that of the first row that holds
+-- every rule that the table of refusals does not refuse has its sheet made, where there is room, and no other has; a refusal is that of the first
+-- row that holds
 pub record EveryRule : Type 0 where
   pub made : (f out : List ℕ) (w : Written) (out′ : List ℕ) → MakePromise f out w out′
       → (n : ℕ) → (w ≡ Done n) ↔ (NoRow (Making f (length out)) × (n ≡ length (sheetOf (drawingIn f))))

@@ -114,11 +114,13 @@ module _ (h : Shape) (table : List ℕ) (pairs : List Pair) (out : List ℕ) whe
       let d = body h table pairs in
       let q : front ≡ map (cellOf d) table =
       is-front
-      ∙ map-below (h .states) (withMark operations) (cellOf d) (λ t b. rw (is-operations, filled-at (operationAt d) (replicate 64 Halt) (h .states) t Halt b (omega arith))) table low in
+      ∙ map-below (h .states) (withMark operations) (cellOf d)
+      (λ t b. rw (is-operations, filled-at (operationAt d) (replicate 64 Halt) (h .states) t Halt b (omega arith))) table low in
       let n : length front ≡ length table = rw q (length-map table (cellOf d)) in
       let six : length (endOf h) ≡ length table + 6 - length table = omega arith in
       keeps-done refl sheet-size room
-      (rw (q, is-end) (part-more (map (cellOf d) table) (endOf h) out (length table) (length table + 6 - length table) (rw (← q) n) six ∙ rw (end-at (length table))))
+      (rw (q, is-end) (part-more (map (cellOf d) table) (endOf h) out (length table) (length table + 6 - length table) (rw (← q) n) six
+      ∙ rw (end-at (length table))))
     where
       end-at : (n : ℕ) → n + (n + 6 - n) ≡ n + 6
       end-at n = omega arith

@@ -49,7 +49,8 @@ pub record Samples : Type 0 where
   pub bytes : length (sample 1 0) ≡ 29
 
 pub samples : Samples
-unfolding sample readingOf verdictOn fileOf firstOf firstBelow firstCell entries members exceeds excess moves stopped empties trailerOf drawingIn upTo flatUpTo framed classed ranged inRange placed trailerOut valueOf digits has isEmpty namesPast target movesInto forbids forbidsSome stopsBy
+unfolding sample readingOf verdictOn fileOf firstOf firstBelow firstCell entries members exceeds excess moves stopped empties trailerOf drawingIn upTo
+    flatUpTo framed classed ranged inRange placed trailerOut valueOf digits has isEmpty namesPast target movesInto forbids forbidsSome stopsBy
 samples = record { states-64 = refl; states-65 = refl; note-1024 = refl; note-1025 = refl; shortest = refl; bytes = refl }
 
 -- of every file
@@ -83,7 +84,7 @@ module _ (f : List ℕ) where
   noteSize = length f - tableBack shape
 
   -- a note of 1,024 is not refused 4, where the back distances are right
-  pub not-refused-1024 : noteSize ≡ 1024 → trailerIn f .table ≡ tableBack shape → trailerIn f .pairs ≡ pairsBack shape
+  pub not-refused-1024 : noteSize ≡ 1024 → trailerIn f .tableback ≡ tableBack shape → trailerIn f .pairsback ≡ pairsBack shape
       → readingOf f .verdict ≡ Refused Distance → ⊥
   not-refused-1024 e t p v = bad (own-row (file-within f) (read-gives f Distance .0 v))
     where

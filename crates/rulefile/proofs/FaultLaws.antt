@@ -94,7 +94,7 @@ pub distance-fails : (t : Trailer) (size : ℕ) → Fails (placed t size) (BadDi
 unfolding placed
 distance-fails t size =
     Iff·trans
-    (and-fails (eq-fails (t .pairs) (pairsBack (t .shape))) (and-fails (eq-fails (t .table) (tableBack (t .shape)))
+    (and-fails (eq-fails (t .pairsback) (pairsBack (t .shape))) (and-fails (eq-fails (t .tableback) (tableBack (t .shape)))
     (and-fails (le-fails (tableBack (t .shape)) size) (le-fails (size - tableBack (t .shape)) 1024)))) (
       ⊎-elim to-pairs (⊎-elim to-table (⊎-elim short note)),
       λ b. elim b [ to-pairs h ↦ inl h | to-table h ↦ inr (inl h) | short h ↦ inr (inr (inl h)) | note h ↦ inr (inr (inr h)) ],

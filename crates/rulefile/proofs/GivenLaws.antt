@@ -89,7 +89,8 @@ module _ (f : List ℕ) where
   unfolding partsOf
   look-ends = by (verdictOn f) (file-answers f)
     where
-      by : (v : Verdict) → Answers (Reading f) readingOrder v → Ends (Reading f) readingOrder (verdictTold (partsBy v f .verdict)) (partsBy v f ≡ partsBy (partsBy v f .verdict) [])
+      by : (v : Verdict) → Answers (Reading f) readingOrder v
+          → Ends (Reading f) readingOrder (verdictTold (partsBy v f .verdict)) (partsBy v f ≡ partsBy (partsBy v f .verdict) [])
       by Sound a = record { tells = done (sound-exactly (file-within f) a .0 refl); rest = λ n. absurd (n refl) }
       by (Refused x) a = record { tells = refused (a .gives x .0 refl); rest = λ n. refl }
 

@@ -143,7 +143,8 @@ module _ (r : Rule) {v : Verdict} (head : v ≡ firstOf (measureConditions (r .s
 
       -- the file by its parts is that of the rule
       pub rule-put : {out : List ℕ} {a : Written} {out′ : List ℕ} → w ≡ Sound
-          → PutPromise Sound (take (r .length) (r .note) ++ (take (r .shape .states * r .shape .events) (r .table) ++ (pairsOut (r .pairs) (r .shape .pairs) ++ trailerOut (r .shape)))) out a out′
+          → PutPromise Sound (take (r .length) (r .note) ++ (take (r .shape .states * r .shape .events) (r .table)
+          ++ (pairsOut (r .pairs) (r .shape .pairs) ++ trailerOut (r .shape)))) out a out′
           → PutPromise (verdictOf r) (fileOf (drawn r)) out a out′
       unfolding fileOf drawn
       rule-put e p = rw (sym told ∙ e, pairsOut-take (r .pairs) (r .shape .pairs)) p

@@ -47,8 +47,8 @@ abbrev pub LongNote : ℕ → Type 0
 LongNote length = longestNote < length
 
 pub data BadDistance (t : Trailer) (size : ℕ) : Type 0 where
-  to-table : (t .table ≡ tableBack (t .shape) → ⊥) → BadDistance t size
-  to-pairs : (t .pairs ≡ pairsBack (t .shape) → ⊥) → BadDistance t size
+  to-table : (t .tableback ≡ tableBack (t .shape) → ⊥) → BadDistance t size
+  to-pairs : (t .pairsback ≡ pairsBack (t .shape) → ⊥) → BadDistance t size
   short : size < tableBack (t .shape) → BadDistance t size
   note : LongNote (size - tableBack (t .shape)) → BadDistance t size
 

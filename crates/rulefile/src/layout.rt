@@ -21,8 +21,8 @@ pub(crate) fn trailer_of(bytes: &[u8]) -> Trailer
     requires { ⌜ length (now bytes) ≡ 12 ⌝ }
     ensures { λ r. ⌜ r ≡ trailerOf (now (bytes .entry)) ⌝ }
 {
-    let table = octets::number(&bytes[6..8]) as usize;
-    let pairs = octets::number(&bytes[8..10]) as usize;
+    let tableback = octets::number(&bytes[6..8]) as usize;
+    let pairsback = octets::number(&bytes[8..10]) as usize;
     Trailer {
         shape: Shape {
             class: bytes[0],
@@ -32,8 +32,8 @@ pub(crate) fn trailer_of(bytes: &[u8]) -> Trailer
             initial: StateNo(bytes[4]),
             mode: bytes[5],
         },
-        table,
-        pairs,
+        tableback,
+        pairsback,
     }
 }
 

@@ -40,8 +40,8 @@ pub fn parts(file: &[u8]) -> Contents
         return layout::refused(refusal);
     }
     let shape = trailer.shape;
-    let start = len - trailer.table;
-    let end = len - trailer.pairs;
+    let start = len - trailer.tableback;
+    let end = len - trailer.pairsback;
     let pairs = layout::pairs_of(&file[end..len - trailer::SIZE], shape.pairs);
     let verdict = checks::check_body(shape, &file[start..end], pairs);
     if let Verdict::Refused(refusal) = verdict {

@@ -40,7 +40,7 @@ range s = refuseIf (not (ranged s)) Range
 -- 4: a back distance is wrong, the file is shorter than the table's distance, or the note is over 1,024
 unfoldable pub placed : Trailer → ℕ → Bool
 placed t size =
-    eqb (t .pairs) (pairsBack (t .shape)) && (eqb (t .table) (tableBack (t .shape))
+    eqb (t .pairsback) (pairsBack (t .shape)) && (eqb (t .tableback) (tableBack (t .shape))
     && (leb (tableBack (t .shape)) size && leb (size - tableBack (t .shape)) longestNote))
 
 abbrev pub distance : Trailer → ℕ → Verdict

@@ -31,8 +31,8 @@ trailerOf t =
     record {
       shape =
           record { class = getD t 0 0; states = getD t 1 0; events = getD t 2 0; pairs = getD t 3 0; initial = stateNo (getD t 4 0); mode = getD t 5 0 };
-      table = valueOf (take 2 (drop 6 t));
-      pairs = valueOf (take 2 (drop 8 t));
+      tableback = valueOf (take 2 (drop 6 t));
+      pairsback = valueOf (take 2 (drop 8 t));
     }
 
 -- the trailer of a file

@@ -15,11 +15,11 @@ pub const PAIR: usize = 16;
 
 pub const LONGEST: usize = 3212;
 
-// What the last twelve bytes of a file say.
+// What the last twelve bytes of a file say: its shape, and the distances from its end back to the table and to the pairs.
 pub struct Trailer {
     pub shape: Shape,
-    pub table: usize,
-    pub pairs: usize,
+    pub tableback: usize,
+    pub pairsback: usize,
 }
 
 // Whether a file has a length that one can have, and ends with the two marks.
@@ -73,10 +73,10 @@ fn placed(trailer: Trailer, len: usize) -> bool
     let shape = trailer.shape;
     let pairs = SIZE + PAIR * (shape.pairs as usize);
     let table = pairs + (shape.states as usize) * (shape.events as usize);
-    if trailer.pairs != pairs {
+    if trailer.pairsback != pairs {
         return false;
     }
-    if trailer.table != table {
+    if trailer.tableback != table {
         return false;
     }
     if len < table {

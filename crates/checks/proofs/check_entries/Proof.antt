@@ -29,23 +29,8 @@ cells-holds c = (omega arith, refl, cells-none _ _)
 loop-holds : tie.Need-loop-holds Inv-loop μ-loop Inv-cells μ-cells
 loop-holds c = (omega arith, search needs, below-none _)
 
-next-requires : tie.Need-next-requires Inv-loop μ-loop Inv-cells μ-cells
-next-requires c κs = search needs
-
-add-e : tie.Need-add-e Inv-loop μ-loop Inv-cells μ-cells
-add-e c = omega arith
-
-loop-less : tie.Need-loop-less Inv-loop μ-loop Inv-cells μ-cells
-loop-less c = omega arith
-
 loop-again : tie.Need-loop-again Inv-loop μ-loop Inv-cells μ-cells
 loop-again c = (omega arith, search needs, entry-more _ _ _ _ _ (c .before .before .next .ensures) (search needs) (c .if1 .left))
-
-add-s : tie.Need-add-s Inv-loop μ-loop Inv-cells μ-cells
-add-s c = omega arith
-
-cells-less : tie.Need-cells-less Inv-loop μ-loop Inv-cells μ-cells
-cells-less c = omega arith
 
 cells-again : tie.Need-cells-again Inv-loop μ-loop Inv-cells μ-cells
 cells-again c = (omega arith, search needs, search (needs, cells-more))
@@ -66,12 +51,12 @@ check-entries-spec =
     μ-cells
     cells-holds
     loop-holds
-    next-requires
-    add-e
-    loop-less
+    (λ c κs. search needs)
+    (λ c. omega arith)
+    (λ c. omega arith)
     loop-again
-    add-s
-    cells-less
+    (λ c. omega arith)
+    (λ c. omega arith)
     cells-again
     returns
     returns-2)

@@ -5,9 +5,6 @@ use Rattle.checks.proofs.CheckLaws.{excess-hit, excess-none}
 use Rattle.checks.proofs.check_excess.Statement.{statement}
 use Rattle.checks.proofs.check_excess.Tie as tie
 
-pair-at-requires : tie.Need-pair-at-requires
-pair-at-requires c κs = search needs
-
 returns : tie.Need-returns
 returns c = search (needs, excess-hit)
 
@@ -15,4 +12,4 @@ returns-2 : tie.Need-returns-2
 returns-2 c = search (needs, excess-none)
 
 pub check-excess-spec : {M : Type 1} → statement M
-check-excess-spec = tie.close (tie.spec pair-at-requires returns returns-2)
+check-excess-spec = tie.close (tie.spec (λ c κs. search needs) returns returns-2)

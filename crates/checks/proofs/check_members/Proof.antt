@@ -22,26 +22,11 @@ abbrev μ-loop : tie.MeasureT-loop
 loop-holds : tie.Need-loop-holds Inv-loop μ-loop
 loop-holds c = (omega arith, refl, below-none _)
 
-pair-at-requires : tie.Need-pair-at-requires Inv-loop μ-loop
-pair-at-requires c κs = search needs
-
-names-past-requires : tie.Need-names-past-requires Inv-loop μ-loop
-names-past-requires c κs = search needs
-
 returns : tie.Need-returns Inv-loop μ-loop
 returns c = search (needs, member-R)
 
-names-past-requires-2 : tie.Need-names-past-requires-2 Inv-loop μ-loop
-names-past-requires-2 c κs = search needs
-
 returns-2 : tie.Need-returns-2 Inv-loop μ-loop
 returns-2 c = search (needs, member-P)
-
-add-i : tie.Need-add-i Inv-loop μ-loop
-add-i c = omega arith
-
-loop-less : tie.Need-loop-less Inv-loop μ-loop
-loop-less c = omega arith
 
 loop-again : tie.Need-loop-again Inv-loop μ-loop
 loop-again c = (omega arith, search needs, search (needs, member-more))
@@ -56,12 +41,12 @@ check-members-spec =
     Inv-loop
     μ-loop
     loop-holds
-    pair-at-requires
-    names-past-requires
+    (λ c κs. search needs)
+    (λ c κs. search needs)
     returns
-    names-past-requires-2
+    (λ c κs. search needs)
     returns-2
-    add-i
-    loop-less
+    (λ c. omega arith)
+    (λ c. omega arith)
     loop-again
     returns-3)

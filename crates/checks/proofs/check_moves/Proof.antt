@@ -13,13 +13,15 @@ use Rattle.checks.proofs.check_moves.Statement.{statement}
 use Rattle.checks.proofs.check_moves.Tie as tie
 
 abbrev Inv-loop : tie.InvT-loop
-Inv-loop shape table pairs states events verdict₀ s from set e₀ verdict e = (e ≤ events) × (verdict ≡ Sound) × (firstBelow (moveOf (shape .class) (take (shape .pairs) pairs) table events s) e ≡ Sound)
+Inv-loop shape table pairs states events verdict₀ s from set e₀ verdict e = (e ≤ events) × (verdict ≡ Sound)
+    × (firstBelow (moveOf (shape .class) (take (shape .pairs) pairs) table events s) e ≡ Sound)
 
 abbrev μ-loop : tie.MeasureT-loop
 μ-loop shape table pairs states events verdict₀ s from set e₀ verdict e = events - e
 
 abbrev Inv-rows : tie.InvT-rows
-Inv-rows shape table pairs states events verdict₀ s₀ verdict s = (s ≤ states) × (verdict ≡ Sound) × (firstCell (moveOf (shape .class) (take (shape .pairs) pairs) table events) s events ≡ Sound)
+Inv-rows shape table pairs states events verdict₀ s₀ verdict s = (s ≤ states) × (verdict ≡ Sound)
+    × (firstCell (moveOf (shape .class) (take (shape .pairs) pairs) table events) s events ≡ Sound)
 
 abbrev μ-rows : tie.MeasureT-rows
 μ-rows shape table pairs states events verdict₀ s₀ verdict s = states - s
@@ -30,32 +32,11 @@ returns c = search (needs, moves-four)
 rows-holds : tie.Need-rows-holds Inv-loop μ-loop Inv-rows μ-rows
 rows-holds c = (omega arith, refl, cells-none _ _)
 
-banned-requires : tie.Need-banned-requires Inv-loop μ-loop Inv-rows μ-rows
-banned-requires c κs = search needs
-
 loop-holds : tie.Need-loop-holds Inv-loop μ-loop Inv-rows μ-rows
 loop-holds c = (omega arith, search needs, below-none _)
 
-next-requires : tie.Need-next-requires Inv-loop μ-loop Inv-rows μ-rows
-next-requires c κs = search needs
-
-contains-requires : tie.Need-contains-requires Inv-loop μ-loop Inv-rows μ-rows
-contains-requires c κs = search needs
-
-add-e : tie.Need-add-e Inv-loop μ-loop Inv-rows μ-rows
-add-e c = omega arith
-
-loop-less : tie.Need-loop-less Inv-loop μ-loop Inv-rows μ-rows
-loop-less c = omega arith
-
 loop-again : tie.Need-loop-again Inv-loop μ-loop Inv-rows μ-rows
 loop-again c = (omega arith, search needs, search (needs, move-more))
-
-add-s : tie.Need-add-s Inv-loop μ-loop Inv-rows μ-rows
-add-s c = omega arith
-
-rows-less : tie.Need-rows-less Inv-loop μ-loop Inv-rows μ-rows
-rows-less c = omega arith
 
 rows-again : tie.Need-rows-again Inv-loop μ-loop Inv-rows μ-rows
 rows-again c = (omega arith, search needs, search (needs, cells-more))
@@ -76,15 +57,15 @@ check-moves-spec =
     μ-rows
     returns
     rows-holds
-    banned-requires
+    (λ c κs. search needs)
     loop-holds
-    next-requires
-    contains-requires
-    add-e
-    loop-less
+    (λ c κs. search needs)
+    (λ c κs. search needs)
+    (λ c. omega arith)
+    (λ c. omega arith)
     loop-again
-    add-s
-    rows-less
+    (λ c. omega arith)
+    (λ c. omega arith)
     rows-again
     returns-2
     returns-3)

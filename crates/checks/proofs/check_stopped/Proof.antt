@@ -18,26 +18,11 @@ Inv-loop shape table pairs reach i₀ i-end i = (i ≤ i-end) × (i-end ≡ shap
 abbrev μ-loop : tie.MeasureT-loop
 μ-loop shape table pairs reach i₀ i-end i = i-end - i
 
-reached-requires : tie.Need-reached-requires Inv-loop μ-loop
-reached-requires c κs = search needs
-
 loop-holds : tie.Need-loop-holds Inv-loop μ-loop
 loop-holds c = (omega arith, refl, below-none _)
 
-pair-at-requires : tie.Need-pair-at-requires Inv-loop μ-loop
-pair-at-requires c κs = search needs
-
-stops-requires : tie.Need-stops-requires Inv-loop μ-loop
-stops-requires c κs = search needs
-
 returns : tie.Need-returns Inv-loop μ-loop
 returns c = search (needs, stop-hit)
-
-add-i : tie.Need-add-i Inv-loop μ-loop
-add-i c = omega arith
-
-loop-less : tie.Need-loop-less Inv-loop μ-loop
-loop-less c = omega arith
 
 loop-again : tie.Need-loop-again Inv-loop μ-loop
 loop-again c = (omega arith, search needs, search (needs, stop-more))
@@ -51,12 +36,12 @@ check-stopped-spec =
     (tie.spec
     Inv-loop
     μ-loop
-    reached-requires
+    (λ c κs. search needs)
     loop-holds
-    pair-at-requires
-    stops-requires
+    (λ c κs. search needs)
+    (λ c κs. search needs)
     returns
-    add-i
-    loop-less
+    (λ c. omega arith)
+    (λ c. omega arith)
     loop-again
     returns-2)

@@ -10,17 +10,11 @@ returns c = search (needs, run-12)
 returns-2 : tie.Need-returns-2
 returns-2 c = search (needs, code-13)
 
-place-requires : tie.Need-place-requires
-place-requires c κs = search needs
-
 shared-slice-read-read : tie.Need-shared-slice-read-read
 shared-slice-read-read c = search (needs, cell-inside)
-
-read-requires : tie.Need-read-requires
-read-requires c κs = search needs
 
 returns-3 : tie.Need-returns-3
 returns-3 c = search (needs, place-fits)
 
 pub look-spec : {M : Type 1} → statement M
-look-spec = tie.close (tie.spec returns returns-2 place-requires shared-slice-read-read read-requires returns-3)
+look-spec = tie.close (tie.spec returns returns-2 (λ c κs. search needs) shared-slice-read-read (λ c κs. search needs) returns-3)
