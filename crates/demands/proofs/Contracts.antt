@@ -21,6 +21,7 @@ use Rattle.rule.specs.Refusals.{toldOf, firstOf}
 use Rattle.rule.specs.Refusals as paper
 use Rattle.checks.specs.Checked.{checkedOf}
 use Rattle.trailer.specs.Conditions.{framed, shapeConditions, headConditions}
+use Rattle.trailer.specs.Layout.{trailerOf, trailerOut}
 use Rattle.rulefile.specs.Reading.{partsOf, readingOf}
 use Rattle.rulefile.specs.Writing.{WritePromise, parts, FilePromise}
 use Rattle.sheet.specs.Opening.{openedOf}
@@ -127,6 +128,12 @@ check-shape-keeps κs a x = x .told
 
 pub check-trailer-keeps : Keeps trailer.check_trailer.ended trailer.check_trailer.Reads.Learnt λ κs a r l. r ≡ firstOf (headConditions (a .0) (a .1 .0))
 check-trailer-keeps κs a x = x .told
+
+pub trailer-of-keeps : Keeps trailer.trailer_of.ended trailer.trailer_of.Reads.Learnt λ κs a r l. r ≡ trailerOf (now (a .0))
+trailer-of-keeps κs a x = x .told
+
+pub put-trailer-keeps : Keeps trailer.put_trailer.ended trailer.put_trailer.Reads.Learnt λ κs a r l. l .0 ≡ copied (trailerOut (a .1 .0)) (now (a .0))
+put-trailer-keeps κs a x = x .told
 
 pub check-body-keeps : Keeps checks.check_body.ended checks.check_body.Reads.Learnt λ κs a r l. r ≡ checkedOf (a .0) (now (a .1 .0)) (a .1 .1 .0)
 check-body-keeps κs a x = x .told

@@ -38,7 +38,8 @@ use Rattle.rule.specs.declared.Written.the-variants.{Done, Refused}
 use Rattle.checks.specs.Checked.{checkedOf}
 use Rattle.checks.proofs.CheckLaws.{conditions-note}
 use Rattle.checks.proofs.HeldLaws.{in-range}
-use Rattle.rulefile.proofs.LayoutLaws.{length-pairsOut, length-trailerOut, pairsOut-take}
+use Rattle.trailer.proofs.LayoutLaws.{length-trailerOut}
+use Rattle.rulefile.proofs.LayoutLaws.{length-pairsOut, pairsOut-take}
 
 -- 4 of a rule by value, after two conditions of which the first refusal is v
 

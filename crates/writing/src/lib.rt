@@ -65,31 +65,6 @@ fn put_pairs(out: &mut [u8], pairs: [Pair; 8], count: u8)
     }
 }
 
-// Fills twelve bytes with the trailer of a shape.
-fn put_trailer(out: &mut [u8], shape: Shape)
-    requires { ⌜ length (now out) ≡ 12 ⌝ }
-    ensures { λ _. ⌜ now (out .exit) ≡ trailerOut shape ⌝ }
-{
-    let pairs = trailer::SIZE + trailer::PAIR * (shape.pairs as usize);
-    let table = pairs + (shape.states as usize) * (shape.events as usize);
-    let initial = shape.initial;
-    let bytes = [
-        shape.class,
-        shape.states,
-        shape.events,
-        shape.pairs,
-        initial.0,
-        shape.mode,
-        (table % 256) as u8,
-        (table / 256 % 256) as u8,
-        (pairs % 256) as u8,
-        (pairs / 256 % 256) as u8,
-        72,
-        82,
-    ];
-    octets::copy(&bytes, out);
-}
-
 // Fills a slice with the used pairs and the trailer.
 fn put_end(out: &mut [u8], shape: Shape, pairs: [Pair; 8])
     requires { ⌜ length (now out) ≡ 16 * shape .pairs + 12 ⌝ }
@@ -97,7 +72,7 @@ fn put_end(out: &mut [u8], shape: Shape, pairs: [Pair; 8])
 {
     let end = trailer::PAIR * (shape.pairs as usize);
     put_pairs(&mut out[0..end], pairs, shape.pairs);
-    put_trailer(&mut out[end..], shape);
+    trailer::put_trailer(&mut out[end..], shape);
 }
 
 // Fills a slice with all that stands after the note: the table, the used pairs and the trailer.
