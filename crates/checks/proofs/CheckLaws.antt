@@ -9,19 +9,20 @@ use native.Mathlib.Omega.{arith}
 use borrow.Author.Tests.{le-leb, lt-leb}
 use lib.Dec.{leb, eqb}
 use lib.Pow.{pow-mono}
-use lib.ListN.{getD, take}
+use lib.ListN.{length, getD, take, length-take, List·getD-eq-default}
 use lib.Seq.{getD-take}
-use Rattle.rule.specs.Classes.{forbids, forbidsSome}
+use Rattle.rule.specs.Classes.{forbids, forbidsSome, movesInto, movesOut}
 use Rattle.rule.specs.Drawing.{Drawing, states, events, count, initial, body, noPair, pairAt, stateNo, eventNo}
 use Rattle.rule.specs.Operations.{reachOf}
-use Rattle.rule.specs.Reach.{target, Closed, reachedWithin}
+use Rattle.rule.specs.Reach.{target, reachedWithin}
 use Rattle.rule.specs.Refusals.{refuseIf, firstOf, firstBelow, firstCell, entries, moves, memberAt}
 use Rattle.rule.specs.Refusals.{members, exceeds, excess, stopAt, stopped, emptyAt, empties, conditions}
-use Rattle.rule.specs.Sets.{has, Members, isEmpty, namesPast}
+use Rattle.rule.specs.Sets.{has, isEmpty, namesPast}
 use Rattle.rule.specs.Stopping.{stopsBy}
-use Rattle.rule.proofs.GivenLaws.{entries-sound}
 use Rattle.rule.proofs.RefusalLaws.{below-hit, below-more, below-end, cells-hit, cells-end, cells-sound-iff, first-hit, first-more, first-one}
-use Rattle.rule.proofs.SetLaws.{names-none}
+use Rattle.rule.proofs.BoolLaws.{Says, clash, itself, not-so}
+use Rattle.rule.proofs.PairLaws.{Some, some-says}
+use Rattle.rule.proofs.SetLaws.{below-or, has-none, names-none}
 use Rattle.rule.specs.declared.Pair.{Pair}
 use Rattle.rule.specs.declared.Shape.{Shape}
 use Rattle.rule.specs.declared.Refusal.{Refusal}
@@ -53,10 +54,6 @@ pub entries-all : (h : Shape) (table : List ℕ) (s : ℕ) {v : Verdict} → v �
 unfolding entryOf entries
 entries-all h table s is rows le ge = is ∙ sym (cells-end (entryOf table (h .states) (h .events)) (h .events) s (h .states) rows le ge)
 
--- check 5 finds every entry below N
-pub all-below : (h : Shape) (table : List ℕ) {v : Verdict} → v ≡ entries (body h table []) → v ≡ Sound → Closed table (h .states) (h .events)
-all-below h table is sound = entries-sound (body h table []) .0 (sym is ∙ sound)
-
 -- the ends of a loop over the pairs: refused here, or none at all
 
 module _ (f : ℕ → Verdict) (n i : ℕ) (none : firstBelow f i ≡ Sound) where
@@ -66,9 +63,17 @@ module _ (f : ℕ → Verdict) (n i : ℕ) (none : firstBelow f i ≡ Sound) whe
   none-below : i ≤ n → n ≤ i → Sound ≡ firstBelow f n
   none-below le ge = sym (below-end f i n none le ge)
 
--- pair i of the used ones
-pub pair-used : (ps : List Pair) (m i : ℕ) → i < m → getD ps i noPair ≡ getD (take m ps) i noPair
-pair-used ps m i h = sym (getD-take m ps i noPair h)
+-- pair i of the used ones, and past them
+
+module _ (ps : List Pair) (m i : ℕ) where
+  pub pair-used : i < m → getD ps i noPair ≡ getD (take m ps) i noPair
+  pair-used h = sym (getD-take m ps i noPair h)
+
+  pub pair-unused : m ≤ i → noPair ≡ getD (take m ps) i noPair
+  pair-unused h = sym (List·getD-eq-default (take m ps) noPair {n = i} (rw (length-take m ps) (omega arith)))
+
+  pub pair-past : length ps ≡ 8 → 8 ≤ i → noPair ≡ getD (take m ps) i noPair
+  pair-past n h = sym (List·getD-eq-default (take m ps) noPair {n = i} (rw (length-take m ps) (omega arith)))
 
 -- 6
 
@@ -119,23 +124,69 @@ module _ (d : Drawing) {q : Pair} (at : q ≡ pairAt d 0) where
 unfoldable pub moveOf : ℕ → List Pair → List ℕ → ℕ → ℕ → ℕ → Verdict
 moveOf class ps table k s e = refuseIf (forbidsSome class ps s (target table k s e)) (Move (stateNo s) (eventNo e))
 
--- a cell that was looked up in the set of what the class forbids from s
-module _ (h : Shape) (table : List ℕ) (ps : List Pair) (few : h .states ≤ 64) (closed : Closed table (h .states) (h .events))
-    (s e : ℕ) (hs : s < h .states) (he : e < h .events) (set : ℕ) (bans : Members set (forbidsSome (h .class) (take (h .pairs) ps) s))
-    {t : ℕ} (is : t ≡ target table (h .events) s e) {b : Bool} (by : b ≡ has set t) where
+-- a move by itself, pair by pair
+
+module _ (class s t : ℕ) where
+  pub forbids-is : (q : Pair) {in-P into-P in-R into-R : Bool} → in-P ≡ has (q .p) s → into-P ≡ has (q .p) t → in-R ≡ has (q .r) s → into-R ≡ has (q .r) t
+      → ((eqb class 1 || eqb class 3) && (not in-P && into-P)) || ((eqb class 2 || eqb class 3) && (in-R && not into-R)) ≡ forbids class q s t
+  unfolding forbids movesInto movesOut
+  forbids-is q a b c d = rw (a, b, c, d)
+
+  -- the class forbids it for none of the first i pairs
+  abbrev pub NoneForbids : List Pair → ℕ → Type 0
+  NoneForbids ps i = (j : ℕ) → j < i → forbids class (getD ps j noPair) s t ≡ false
+
+  pub forbids-start : (ps : List Pair) → NoneForbids ps 0
+  forbids-start ps j h = absurd (omega arith)
+
+  pub forbids-more : (ps : List Pair) (i : ℕ) {q : Pair} {b : Bool} → NoneForbids ps i → q ≡ getD ps i noPair → b ≡ forbids class q s t → b ≡ false
+      → NoneForbids ps (i + 1)
+  forbids-more ps i none at is low j h =
+      below-or j i (none j) (λ l. let e : j ≡ i = omega arith in rw (e, ← at) (sym is ∙ low))
+
+  -- the empty pair forbids nothing
+  forbids-none : forbids class noPair s t ≡ false
+  unfolding forbids movesInto movesOut
+  forbids-none = rw (has-none s, has-none t) (neither (eqb class 1 || eqb class 3) (eqb class 2 || eqb class 3))
+    where
+      neither : (a b : Bool) → (a && false) || (b && false) ≡ false
+      neither true true = refl
+      neither true false = refl
+      neither false true = refl
+      neither false false = refl
+
+  abbrev some : (ps : List Pair) → Says (forbidsSome class ps s t) (Some (λ p. forbids class p s t ≡ true) ps)
+  unfolding forbidsSome
+  some = some-says (λ ps. forbidsSome class ps s t) (λ p. forbids class p s t) refl (λ p ps. refl) _ (λ p. itself (forbids class p s t))
+
+  pub forbids-hit : (ps : List Pair) (i : ℕ) {q : Pair} {b : Bool} → q ≡ getD ps i noPair → b ≡ forbids class q s t → b ≡ true
+      → true ≡ forbidsSome class ps s t
+  forbids-hit ps i at is high =
+      below-or i (length ps)
+      (λ l. sym (some ps .1 (i, l, rw (← at) (sym is ∙ high))))
+      (λ l. clash (sym is ∙ high) (rw (at, List·getD-eq-default ps noPair {n = i} l) forbids-none))
+
+  pub forbids-all : (ps : List Pair) (m i : ℕ) → NoneForbids (take m ps) i → i ≤ m → m ≤ i → false ≡ forbidsSome class (take m ps) s t
+  forbids-all ps m i none le ge =
+      sym (not-so (forbidsSome class (take m ps) s t) (λ h.
+      let g = some (take m ps) .0 h in clash (g .2) (none (g .0) (omega (arith, g .1, length-take m ps)))))
+
+-- a cell whose target was looked up in the set of what the class forbids from s, or asked for by itself
+module _ (h : Shape) (table : List ℕ) (ps : List Pair) (s e : ℕ) {t : ℕ} (is : t ≡ target table (h .events) s e)
+    {b : Bool} (by : b ≡ forbidsSome (h .class) (take (h .pairs) ps) s t) where
   looked-up : moveOf (h .class) (take (h .pairs) ps) table (h .events) s e ≡ refuseIf b (Move (stateNo s) (eventNo e))
   unfolding moveOf
-  looked-up = rw (by, is, bans (target table (h .events) s e) (omega (arith, closed s e hs he)))
+  looked-up = rw (by, is)
 
   pub move-more : firstBelow (moveOf (h .class) (take (h .pairs) ps) table (h .events) s) e ≡ Sound → b ≡ false
       → firstBelow (moveOf (h .class) (take (h .pairs) ps) table (h .events) s) (e + 1) ≡ Sound
   move-more none low = below-more (moveOf (h .class) (take (h .pairs) ps) table (h .events) s) e none (looked-up ∙ rw low)
 
   pub move-hit : firstCell (moveOf (h .class) (take (h .pairs) ps) table (h .events)) s (h .events) ≡ Sound
-      → firstBelow (moveOf (h .class) (take (h .pairs) ps) table (h .events) s) e ≡ Sound → b ≡ true
+      → firstBelow (moveOf (h .class) (take (h .pairs) ps) table (h .events) s) e ≡ Sound → b ≡ true → s < h .states → e < h .events
       → Refused (Move (stateNo s) (eventNo e)) ≡ moves (body h table ps)
   unfolding moveOf moves
-  move-hit rows none high =
+  move-hit rows none high hs he =
       sym (cells-hit (moveOf (h .class) (take (h .pairs) ps) table (h .events)) (h .events) s e _ rows none (looked-up ∙ rw high) (h .states) hs he)
 
 pub moves-all : (h : Shape) (table : List ℕ) (ps : List Pair) (s : ℕ) {v : Verdict} → v ≡ Sound

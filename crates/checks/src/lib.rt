@@ -3,10 +3,9 @@
 ghost use mathlib.Core.Path.{_≡_};
 ghost use mathlib.Core.Bool.{not};
 ghost use mathlib.Core.List.{[]};
-ghost use Prim.Native.Nat.{_≤_, _<_};
-ghost use lib.ListN.{drop};
+ghost use lib.ListN.{take, drop};
+ghost use Rattle.rule.specs.Classes.{forbidsSome};
 ghost use Rattle.rule.specs.Drawing.{body, pairAt};
-ghost use Rattle.rule.specs.Reach.{Closed};
 ghost use Rattle.rule.specs.Refusals.{refuseIf, firstOf, conditions};
 ghost use Rattle.rule.specs.Refusals as paper;
 ghost use Rattle.rule.specs.Sets.{namesPast};
@@ -37,7 +36,7 @@ fn check_range(shape: Shape) -> Verdict
 }
 
 // 5: the first entry in row order that names no state.
-fn check_entries(shape: Shape, table: &[u8]) -> Verdict
+pub fn check_entries(shape: Shape, table: &[u8]) -> Verdict
     ensures { λ r. ⌜ r ≡ paper.entries (body shape (now (table .entry)) []) ⌝ }
 {
     let states = shape.states;
@@ -56,11 +55,17 @@ fn check_entries(shape: Shape, table: &[u8]) -> Verdict
     verdict
 }
 
-// Pair i, one of the used ones.
+// Pair i of the used ones, and past them the empty pair.
 fn pair_at(shape: Shape, pairs: [Pair; 8], i: u8) -> Pair
-    requires { ⌜ (i < shape .pairs) × (shape .pairs ≤ 8) ⌝ }
     ensures { λ r. ⌜ r ≡ pairAt (body shape [] pairs) i ⌝ }
 {
+    let none = Pair { r: 0, p: 0 };
+    if shape.pairs <= i {
+        return none;
+    }
+    if Rule::PAIRS <= i {
+        return none;
+    }
     pairs[i as usize]
 }
 
@@ -76,8 +81,7 @@ fn names_past(states: u8, set: u64) -> bool
 }
 
 // 6: the lowest used pair that names no state, and which of its two sets does.
-fn check_members(shape: Shape, pairs: [Pair; 8]) -> Verdict
-    requires { ⌜ shape .pairs ≤ 8 ⌝ }
+pub fn check_members(shape: Shape, pairs: [Pair; 8]) -> Verdict
     ensures { λ r. ⌜ r ≡ paper.members (body shape [] pairs) ⌝ }
 {
     for i in 0..shape.pairs {
@@ -93,8 +97,7 @@ fn check_members(shape: Shape, pairs: [Pair; 8]) -> Verdict
 }
 
 // 7: R in class 1, P in class 2 and in class 4.
-fn check_excess(shape: Shape, pairs: [Pair; 8]) -> Verdict
-    requires { ⌜ (1 ≤ shape .pairs) × (shape .pairs ≤ 8) ⌝ }
+pub fn check_excess(shape: Shape, pairs: [Pair; 8]) -> Verdict
     ensures { λ r. ⌜ r ≡ paper.excess (body shape [] pairs) ⌝ }
 {
     let pair = pair_at(shape, pairs, 0);
@@ -107,10 +110,30 @@ fn check_excess(shape: Shape, pairs: [Pair; 8]) -> Verdict
     Verdict::Sound
 }
 
-// 8: the first move in row order that the class forbids. Class 4 forbids none. Check 5 has found every entry below N, so that
-// each is a state that a set can hold.
-fn check_moves(shape: Shape, table: &[u8], pairs: [Pair; 8]) -> Verdict
-    requires { ⌜ (shape .states ≤ 64) × (shape .pairs ≤ 8) × Closed (now table) (shape .states) (shape .events) ⌝ }
+// Whether the class forbids the move from s to t for a pair.
+fn forbids(class: u8, pair: Pair, s: StateNo, t: StateNo) -> bool
+    ensures { λ r. ⌜ r ≡ Rattle.rule.specs.Classes.forbids class pair (s .0) (t .0) ⌝ }
+{
+    let into = !contains(pair.p, s) & contains(pair.p, t);
+    let out = contains(pair.r, s) & !contains(pair.r, t);
+    (((class == 1) | (class == 3)) & into) | (((class == 2) | (class == 3)) & out)
+}
+
+// Whether it does for one of the used pairs.
+fn forbids_some(shape: Shape, pairs: [Pair; 8], s: StateNo, t: StateNo) -> bool
+    ensures { λ r. ⌜ r ≡ forbidsSome (shape .class) (take (shape .pairs) pairs) (s .0) (t .0) ⌝ }
+{
+    for i in 0..shape.pairs {
+        if forbids(shape.class, pair_at(shape, pairs, i), s, t) {
+            return true;
+        }
+    }
+    false
+}
+
+// 8: the first move in row order that the class forbids. Class 4 forbids none. What is forbidden from a state is a set, made once
+// for its row; only a target that no set can hold is asked for by itself.
+pub fn check_moves(shape: Shape, table: &[u8], pairs: [Pair; 8]) -> Verdict
     ensures { λ r. ⌜ r ≡ paper.moves (body shape (now (table .entry)) pairs) ⌝ }
 {
     if shape.class == 4 {
@@ -124,7 +147,13 @@ fn check_moves(shape: Shape, table: &[u8], pairs: [Pair; 8]) -> Verdict
         let set = banned(shape, pairs, from);
         for e in 0..events {
             let code = EventNo(e);
-            if contains(set, next(table, events, from, code)) {
+            let to = next(table, events, from, code);
+            let banned = if to.0 < Rule::STATES {
+                contains(set, to)
+            } else {
+                forbids_some(shape, pairs, from, to)
+            };
+            if banned {
                 verdict = Verdict::Refused(Refusal::Move(from, code));
                 break 'rows;
             }
@@ -134,8 +163,7 @@ fn check_moves(shape: Shape, table: &[u8], pairs: [Pair; 8]) -> Verdict
 }
 
 // 9: the lowest used pair by which the initial state is stopping.
-fn check_stopped(shape: Shape, table: &[u8], pairs: [Pair; 8]) -> Verdict
-    requires { ⌜ shape .pairs ≤ 8 ⌝ }
+pub fn check_stopped(shape: Shape, table: &[u8], pairs: [Pair; 8]) -> Verdict
     ensures { λ r. ⌜ r ≡ paper.stopped (body shape (now (table .entry)) pairs) ⌝ }
 {
     let reach = reached(table, shape.states, shape.events, shape.initial);
@@ -149,8 +177,7 @@ fn check_stopped(shape: Shape, table: &[u8], pairs: [Pair; 8]) -> Verdict
 }
 
 // 10: the lowest used pair with both sets empty.
-fn check_empties(shape: Shape, pairs: [Pair; 8]) -> Verdict
-    requires { ⌜ shape .pairs ≤ 8 ⌝ }
+pub fn check_empties(shape: Shape, pairs: [Pair; 8]) -> Verdict
     ensures { λ r. ⌜ r ≡ paper.empties (body shape [] pairs) ⌝ }
 {
     for i in 0..shape.pairs {
@@ -162,9 +189,8 @@ fn check_empties(shape: Shape, pairs: [Pair; 8]) -> Verdict
     Verdict::Sound
 }
 
-// The checks 7 to 10 in order, of what passed 3 and 5.
+// The checks 7 to 10 in order.
 fn check_from_excess(shape: Shape, table: &[u8], pairs: [Pair; 8]) -> Verdict
-    requires { ⌜ (shape .states ≤ 64) × (1 ≤ shape .pairs) × (shape .pairs ≤ 8) × Closed (now table) (shape .states) (shape .events) ⌝ }
     ensures { λ r. ⌜ r ≡ firstOf (drop 2 (conditions (body shape (now (table .entry)) pairs))) ⌝ }
 {
     let verdict = check_excess(shape, pairs);

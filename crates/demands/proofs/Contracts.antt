@@ -3,6 +3,7 @@
 -- Assumes nothing.
 use Prim.Native.Nat.{_-_}
 use mathlib.Core.Path.{_≡_}
+use mathlib.Core.List.{[]}
 use lib.ListN.{length, take}
 use denote.Ref.{now}
 use Rattle.contracts.specs.Contract.{Keeps}
@@ -17,10 +18,12 @@ use Rattle.rule.specs.Operations.{markOf, valueOf, smallestOf, operationsOf}
 use Rattle.rule.specs.Stopping.{stopsBy}
 use Rattle.rule.specs.Classes.{forbidsSome}
 use Rattle.rule.specs.Refusals.{toldOf, firstOf}
+use Rattle.rule.specs.Refusals as paper
 use Rattle.checks.specs.Checked.{checkedOf}
 use Rattle.trailer.specs.Conditions.{framed, shapeConditions, headConditions}
+use Rattle.trailer.specs.Layout.{trailerOf, trailerOut}
 use Rattle.rulefile.specs.Reading.{partsOf, readingOf}
-use Rattle.rulefile.specs.Writing.{WritePromise}
+use Rattle.rulefile.specs.Writing.{WritePromise, parts, FilePromise}
 use Rattle.sheet.specs.Opening.{openedOf}
 use Rattle.making.specs.Making.{MakePromise}
 use Rattle.effects.specs.Effects.{freshRun, answerIn, StorePromise, DumpPromise}
@@ -57,6 +60,10 @@ read-keeps κs a x = x .told
 
 pub write-keeps : Keeps writing.write.ended writing.write.Reads.Learnt λ κs a r l. WritePromise (a .0) (now (a .1 .0)) r (l .1 .0)
 write-keeps κs a x = x .told
+
+pub put-file-keeps : Keeps writing.put_file.ended writing.put_file.Reads.Learnt λ κs a r l.
+    FilePromise (parts (a .0) (now (a .1 .0)) (now (a .1 .1 .0)) (a .1 .1 .1 .0)) (now (a .1 .1 .1 .1 .0)) r (l .1 .1 .1 .1 .0)
+put-file-keeps κs a x = x .told
 
 -- the sheet: made, opened
 
@@ -122,8 +129,33 @@ check-shape-keeps κs a x = x .told
 pub check-trailer-keeps : Keeps trailer.check_trailer.ended trailer.check_trailer.Reads.Learnt λ κs a r l. r ≡ firstOf (headConditions (a .0) (a .1 .0))
 check-trailer-keeps κs a x = x .told
 
+pub trailer-of-keeps : Keeps trailer.trailer_of.ended trailer.trailer_of.Reads.Learnt λ κs a r l. r ≡ trailerOf (now (a .0))
+trailer-of-keeps κs a x = x .told
+
+pub put-trailer-keeps : Keeps trailer.put_trailer.ended trailer.put_trailer.Reads.Learnt λ κs a r l. l .0 ≡ copied (trailerOut (a .1 .0)) (now (a .0))
+put-trailer-keeps κs a x = x .told
+
 pub check-body-keeps : Keeps checks.check_body.ended checks.check_body.Reads.Learnt λ κs a r l. r ≡ checkedOf (a .0) (now (a .1 .0)) (a .1 .1 .0)
 check-body-keeps κs a x = x .told
+
+pub check-entries-keeps : Keeps checks.check_entries.ended checks.check_entries.Reads.Learnt λ κs a r l. r ≡ paper.entries (body (a .0) (now (a .1 .0)) [])
+check-entries-keeps κs a x = x .told
+
+pub check-members-keeps : Keeps checks.check_members.ended checks.check_members.Reads.Learnt λ κs a r l. r ≡ paper.members (body (a .0) [] (a .1 .0))
+check-members-keeps κs a x = x .told
+
+pub check-excess-keeps : Keeps checks.check_excess.ended checks.check_excess.Reads.Learnt λ κs a r l. r ≡ paper.excess (body (a .0) [] (a .1 .0))
+check-excess-keeps κs a x = x .told
+
+pub check-moves-keeps : Keeps checks.check_moves.ended checks.check_moves.Reads.Learnt λ κs a r l. r ≡ paper.moves (body (a .0) (now (a .1 .0)) (a .1 .1 .0))
+check-moves-keeps κs a x = x .told
+
+pub check-stopped-keeps : Keeps checks.check_stopped.ended checks.check_stopped.Reads.Learnt λ κs a r l.
+    r ≡ paper.stopped (body (a .0) (now (a .1 .0)) (a .1 .1 .0))
+check-stopped-keeps κs a x = x .told
+
+pub check-empties-keeps : Keeps checks.check_empties.ended checks.check_empties.Reads.Learnt λ κs a r l. r ≡ paper.empties (body (a .0) [] (a .1 .0))
+check-empties-keeps κs a x = x .told
 
 pub banned-keeps : Keeps classes.banned.ended classes.banned.Reads.Learnt λ κs a r l.
     Members r (forbidsSome (a .0 .class) (take (a .0 .pairs) (a .1 .0)) (a .1 .1 .0 .0))

@@ -6,7 +6,8 @@ use Rattle.trailer.proofs.NumberLaws.{shape-gives, head-gives}
 use Rattle.rulefile.specs.Layout.{drawingIn, fileOf}
 use Rattle.rulefile.specs.Reading.{verdictOn}
 use Rattle.rulefile.specs.Writing.{verdictOf}
-use Rattle.rule.proofs.PutLaws.{put-one}
+use Rattle.rule.proofs.NumberLaws.{entries-give, members-give, excess-gives, moves-give, stopped-gives, empties-give}
+use Rattle.rule.proofs.PutLaws.{put-one, only-room-ends}
 use Rattle.rulefile.proofs.GivenLaws.{look-ends, read-ends, write-ends}
 use Rattle.sheet.specs.Layout.{sheetOf}
 use Rattle.making.proofs.GivenLaws.{make-ends}
@@ -26,6 +27,8 @@ demand-1 =
       read = read-ends;
       one-write = λ r out. put-one (verdictOf r) (fileOf (drawn r)) out;
       write = λ r h out w out′ p. write-ends r (h .pairs-long) p;
+      one-file = λ d out. put-one Sound (fileOf d) out;
+      put-file = λ d out w out′ p. only-room-ends p;
       one-make = λ f out. put-one (verdictOn f) (sheetOf (drawingIn f)) out;
       make = λ f out w out′ p. make-ends p;
       opening = open-ends;
@@ -43,4 +46,10 @@ demand-1 =
       shape = shape-gives;
       head = head-gives;
       check = checked-gives;
+      check-5 = entries-give;
+      check-6 = members-give;
+      check-7 = excess-gives;
+      check-8 = moves-give;
+      check-9 = stopped-gives;
+      check-10 = empties-give;
     }

@@ -8,10 +8,10 @@
 -- Assumes nothing: this is a statement. proofs/Demand1 proves it.
 use Prim.Native.Nat.{ℕ}
 use mathlib.Core.Path.{_≡_}
-use mathlib.Core.List.{List, []}
+use mathlib.Core.List.{List, [], _∷_}
 use lib.ListN.{length}
-use Rattle.rule.specs.Drawing.{stateNo, eventNo, zeroRule}
-use Rattle.rule.specs.Refusals.{Numbered, firstOf, verdictTold}
+use Rattle.rule.specs.Drawing.{Drawing, stateNo, eventNo, zeroRule}
+use Rattle.rule.specs.Refusals.{Numbered, firstOf, verdictTold, entries, members, excess, moves, stopped, empties}
 use Rattle.rule.specs.Given.{Ends}
 use Rattle.rule.specs.declared.StateNo.{StateNo}
 use Rattle.rule.specs.declared.EventNo.{EventNo}
@@ -23,10 +23,10 @@ use Rattle.rule.specs.declared.Verdict.the-variants.{Refused as Unsound}
 use Rattle.checks.specs.Checked.{checkedOf, checkedOrder}
 use Rattle.trailer.specs.Conditions.{shapeConditions, shapeOrder, headConditions, headOrder}
 use Rattle.trailer.specs.declared.Trailer.{Trailer}
-use Rattle.rulefile.specs.Given.{Reading, readingOrder, Writing, writingOrder}
+use Rattle.rulefile.specs.Given.{Reading, readingOrder, Writing, writingOrder, Filing, filingOrder}
 use Rattle.rulefile.specs.Reading.{partsBy, partsOf, readingOf}
 use Rattle.rule.specs.Putting.{OneWritten, writtenTold}
-use Rattle.rulefile.specs.Writing.{Held, WritePromise}
+use Rattle.rulefile.specs.Writing.{Held, WritePromise, FilePromise}
 use Rattle.rule.specs.declared.Written.{Written}
 use Rattle.making.specs.Given.{Making, makingOrder}
 use Rattle.making.specs.Making.{MakePromise}
@@ -52,6 +52,10 @@ pub record Demand1 : Type 0 where
   pub one-write : (r : Rule) (out : List ℕ) → OneWritten (WritePromise r out)
   pub write : (r : Rule) → Held r → (out : List ℕ) (w : Written) (out′ : List ℕ) → WritePromise r out w out′
       → Ends (Writing r (length out)) writingOrder (writtenTold w) (out′ ≡ out)
+  -- a drawing's file, put unchecked: 16; refused, the output as it was
+  pub one-file : (d : Drawing) (out : List ℕ) → OneWritten (FilePromise d out)
+  pub put-file : (d : Drawing) (out : List ℕ) (w : Written) (out′ : List ℕ) → FilePromise d out w out′
+      → Ends (Filing d (length out)) filingOrder (writtenTold w) (out′ ≡ out)
   -- a sheet, made: 1 to 10, then 16; refused, the output as it was
   pub one-make : (f out : List ℕ) → OneWritten (MakePromise f out)
   pub make : (f out : List ℕ) (w : Written) (out′ : List ℕ) → MakePromise f out w out′ → Ends (Making f (length out)) makingOrder (writtenTold w) (out′ ≡ out)
@@ -86,3 +90,10 @@ pub record Demand1 : Type 0 where
   pub shape : (s : Shape) (x : Refusal) → firstOf (shapeConditions s) ≡ Unsound x → Numbered shapeOrder x
   pub head : (t : Trailer) (size : ℕ) (x : Refusal) → firstOf (headConditions t size) ≡ Unsound x → Numbered headOrder x
   pub check : (s : Shape) (table : List ℕ) (pairs : List Pair) (x : Refusal) → checkedOf s table pairs ≡ Unsound x → Numbered checkedOrder x
+  -- and each of the checks 5 to 10 alone, of any drawing, gives its own number
+  pub check-5 : (d : Drawing) (x : Refusal) → entries d ≡ Unsound x → Numbered (5 ∷ []) x
+  pub check-6 : (d : Drawing) (x : Refusal) → members d ≡ Unsound x → Numbered (6 ∷ []) x
+  pub check-7 : (d : Drawing) (x : Refusal) → excess d ≡ Unsound x → Numbered (7 ∷ []) x
+  pub check-8 : (d : Drawing) (x : Refusal) → moves d ≡ Unsound x → Numbered (8 ∷ []) x
+  pub check-9 : (d : Drawing) (x : Refusal) → stopped d ≡ Unsound x → Numbered (9 ∷ []) x
+  pub check-10 : (d : Drawing) (x : Refusal) → empties d ≡ Unsound x → Numbered (10 ∷ []) x

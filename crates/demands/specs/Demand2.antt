@@ -1,7 +1,7 @@
 -- DEMAND 2. For each rule of the four classes the monitor does, in every state and at every code, what the published construction says.
 -- A rule read and written again is byte for byte the same file; a rule written and read is the same rule.
 -- Assumes nothing: these are statements. proofs/Demand2 proves them.
-use Prim.Native.Nat.{ℕ, _+_, _/_, _%_, _≤_, _<_}
+use Prim.Native.Nat.{ℕ, _/_, _%_, _≤_, _<_}
 use mathlib.Core.Path.{_≡_}
 use mathlib.Core.Bool.{true}
 use mathlib.Core.Logic.{_↔_}

@@ -248,10 +248,6 @@ module _ (m : Machine) where
               (λ v w a. hopeless v w (accepts-more (codes before) v (x .code) ∙ a));
         }
 
-    -- the state of a course is one of the machine's
-    pub course-valid : q < m .states
-    course-valid = sound L c .valid
-
     -- once it has halted, the operation of its state is halt
     pub halted : (before rest : List Entry) (e : ℕ) → log ≡ before ++ entry e Halt ∷ rest → m .operation q ≡ Halt
     halted before rest e p =

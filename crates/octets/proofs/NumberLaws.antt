@@ -41,24 +41,10 @@ valueOf-drop l i h = ap valueOf (drop-cons l i 0 h) ∙ omega arith
 pub valueOf-part : (k : ℕ) (l : List ℕ) → k ≤ 8 → valueOf (take 8 (take k l)) ≡ valueOf (take k l)
 valueOf-part k l h = ap valueOf (take-all 8 (take k l) (rw length-take (omega arith)))
 
--- so many bytes are less than that power of 256
-pub valueOf-lt : (l : List ℕ) → Bytes l → valueOf l < 256 ^ length l
-unfolding valueOf
-valueOf-lt [] h = lit< tt
-valueOf-lt (b ∷ l) h =
-    let e : b + 256 * valueOf l ≡ valueOf l * 256 + b = omega arith in
-    rw e (byte-more (length l) (valueOf l) b (valueOf-lt l (λ j. h (suc j))) (h zero))
-
 pub length-digits : (width x : ℕ) → length (digits width x) ≡ width
 unfolding digits
 length-digits zero x = refl
 length-digits (suc width) x = ap suc (length-digits width (x / 256))
-
-pub digits-bytes : (width x : ℕ) → Bytes (digits width x)
-unfolding digits
-digits-bytes zero x i = lit< tt
-digits-bytes (suc width) x zero = omega arith
-digits-bytes (suc width) x (suc i) = digits-bytes width (x / 256) i
 
 -- a number, written and read back
 pub valueOf-digits : (width x : ℕ) → x < 256 ^ width → valueOf (digits width x) ≡ x

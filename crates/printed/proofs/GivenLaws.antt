@@ -5,31 +5,27 @@ use native.Mathlib.Omega.{arith}
 use native.Mathlib.Decide.{decLe}
 use mathlib.Core.Path.{_≡_, refl}
 use mathlib.Core.Logic.{_↔_}
-use mathlib.Core.List.{List, []}
+use mathlib.Core.List.{List}
 use lib.ListN.{length}
-use Rattle.rule.specs.Given.{NoRow, NoRows, Given, row, last, Ends}
+use Rattle.rule.specs.Given.{NoRow, Given, row, last, Ends}
 use Rattle.rule.specs.declared.Refusal.{Refusal}
-use Rattle.rule.proofs.TableLaws.{Within, end}
 use Rattle.rule.specs.Putting.{writtenTold}
 use Rattle.rule.specs.declared.Written.{Written}
 use Rattle.rule.specs.declared.Written.the-variants.{Done, Refused}
-use Rattle.rule.proofs.PutLaws.{put-gives, put-does, put-ends}
+use Rattle.rule.proofs.PutLaws.{only-room-gives, only-room-does, only-room-ends}
 use Rattle.printed.specs.Printing.{textMax, textOf, PrintPromise, Printing, printingOrder}
 use Rattle.printed.proofs.PrintLaws.{text-short}
 
-none-within : Within [] NoRows
-none-within n x r = elim r [ ]
-
 module _ (f : List ℕ) {out : List ℕ} {w : Written} {out′ : List ℕ} (kept : PrintPromise f out w out′) where
   pub print-gives : (x : Refusal) → (w ≡ Refused x) ↔ Given (Printing f (length out)) x printingOrder
-  print-gives = put-gives none-within refl end kept
+  print-gives = only-room-gives kept
 
   pub print-done : (n : ℕ) → (w ≡ Done n) ↔ (NoRow (Printing f (length out)) × (n ≡ length (textOf f)))
-  print-done = put-does none-within refl end kept
+  print-done = only-room-does kept
 
   -- how printing ends: a refused call leaves the output as it was
   pub print-ends : Ends (Printing f (length out)) printingOrder (writtenTold w) (out′ ≡ out)
-  print-ends = put-ends none-within refl end kept
+  print-ends = only-room-ends kept
 
   -- what was put lies within the output
   pub done-fits : {n : ℕ} → w ≡ Done n → n ≤ length out

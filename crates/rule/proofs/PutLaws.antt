@@ -11,7 +11,7 @@ use lib.Seq.{take-at, drop-at}
 use lib.Dec.{leb}
 use borrow.Author.Tests.{le-leb, lt-leb}
 use Rattle.rule.specs.Refusals.{among, Numbered, refuseIf, orElse}
-use Rattle.rule.specs.Given.{Table, NoRow, Given, done, refused, Ends}
+use Rattle.rule.specs.Given.{Table, NoRow, NoRows, Given, done, refused, Ends}
 use Rattle.rule.specs.Putting.{settledBy, outputBy, PutPromise, OneWritten, Put, putOrder, writtenTold}
 use Rattle.rule.specs.declared.Refusal.{Refusal}
 use Rattle.rule.specs.declared.Refusal.the-variants.{Room}
@@ -22,7 +22,7 @@ use Rattle.rule.specs.declared.Written.the-variants.{Done, Refused as Un
 use Rattle.rule.proofs.BoolLaws.{fails-say, le-fails}
 use Rattle.rule.proofs.NumberLaws.{Gives, among-ahead, among-last}
 use Rattle.rule.proofs.RefusalLaws.{not-both}
-use Rattle.rule.proofs.TableLaws.{Within, Answers, sound-exactly, after-within, after}
+use Rattle.rule.proofs.TableLaws.{Within, Answers, end, sound-exactly, after-within, after}
 
 -- what keeps the promise: refused as the verdict is, refused for room, or done
 
@@ -146,3 +146,21 @@ module _ {T : Table} {order : List ℕ} {v : Verdict} {bytes out : List ℕ} {w 
           → ((n : ℕ) → (w ≡ Done n) ↔ (NoRow call × (n ≡ length bytes))) → Ends call (putOrder order) (writtenTold w) (out′ ≡ out)
       by (Done n) kept gives does = record { tells = done (does n .0 refl .0); rest = λ n. absurd (n refl) }
       by (Unwritten x) kept gives does = record { tells = refused (gives x .0 refl); rest = λ n. put-kept v bytes out x out′ kept }
+
+-- bytes that are put unchecked: 16 where they do not fit, and nothing else
+
+none-within : Within [] NoRows
+none-within n x r = elim r [ ]
+
+module _ {bytes out : List ℕ} {w : Written} {out′ : List ℕ} (kept : PutPromise Sound bytes out w out′) where
+  abbrev filled : Table
+  filled = Put NoRows (length bytes) (length out)
+
+  pub only-room-gives : (x : Refusal) → (w ≡ Unwritten x) ↔ Given filled x (putOrder [])
+  only-room-gives = put-gives none-within refl end kept
+
+  pub only-room-does : (n : ℕ) → (w ≡ Done n) ↔ (NoRow filled × (n ≡ length bytes))
+  only-room-does = put-does none-within refl end kept
+
+  pub only-room-ends : Ends filled (putOrder []) (writtenTold w) (out′ ≡ out)
+  only-room-ends = put-ends none-within refl end kept

@@ -1,10 +1,7 @@
 -- What the range of N, K and the initial state says, where it holds and where it fails.
 -- Assumes nothing.
 use Prim.Native.Nat.{ℕ}
-use mathlib.Core.Bool.{Bool, true, false, _&&_}
-use mathlib.Core.Logic.{_⊎_, inl, inr, ⊎-elim, Iff·trans}
-use mathlib.Core.Path.{refl}
-use lib.Dec.{leb}
+use mathlib.Core.Logic.{inl, inr, ⊎-elim, Iff·trans}
 use Rattle.rule.specs.Range.{between, Outside, under, over, inRange, InRange, OutOfRange, bad-N, bad-K, bad-initial}
 use Rattle.rule.specs.declared.Limits.{Limits}
 use Rattle.rule.proofs.BoolLaws.{Says, and-says, le-says, lt-says, in-words, Fails, le-fails, lt-fails, and-fails}

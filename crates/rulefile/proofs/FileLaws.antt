@@ -27,7 +27,8 @@ use Rattle.rulefile.specs.Layout.{upTo, pairIn, pairBytes, drawingIn, pa
 use Rattle.rulefile.specs.Reading.{verdictOn, readingOf}
 use Rattle.rulefile.proofs.ListLaws.{getD-upTo, flat-ext}
 use Rattle.rulefile.proofs.CutLaws.{drop-end, part-on, part-on-back, upTo-take, flat-take, flat-at}
-use Rattle.rulefile.proofs.LayoutLaws.{length-pairOut, length-pairsOut, length-trailerOut}
+use Rattle.trailer.proofs.LayoutLaws.{length-trailerOut}
+use Rattle.rulefile.proofs.LayoutLaws.{length-pairOut, length-pairsOut}
 use Rattle.rulefile.proofs.PartsLaws.{SoundFile}
 use Rattle.rulefile.proofs.DrawnLaws.{SoundDrawing}
 

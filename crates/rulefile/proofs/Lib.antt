@@ -6,7 +6,6 @@ pub mod ReadingLaws
 pub mod PartsLaws
 pub mod WellLaws
 pub mod WritingLaws
-pub mod AnswerLaws
 -- refusals: given exactly when
 pub mod FaultLaws
 pub mod RowLaws

@@ -97,9 +97,6 @@ module _ (f : List ℕ) {ok : Bool} (is : ok ≡ framed f) (right : not ok ≡ f
   pub frame-long : 12 ≤ length f
   frame-long = framed-says f .0 (sym is ∙ not-false ok right) .long
 
-  pub trailer-long : length (take (length f - (length f - 12)) (drop (length f - 12) f)) ≡ 12
-  trailer-long = part-length (length f - 12) (length f) f (omega arith) ∙ omega (arith, frame-long)
-
 -- the trailer that was looked at
 trailer-is : (f : List ℕ) {t : Trailer} → t ≡ trailerOf (take (length f - (length f - 12)) (drop (length f - 12) f)) → t ≡ trailerIn f
 trailer-is f e = e ∙ ap trailerOf (tail-part (length f - 12) f)

@@ -1,11 +1,10 @@
 -- The rows of the tables, and the verdicts that decide them.
 -- Assumes nothing.
 use Prim.Native.Nat.{ℕ, _≤_, _<_}
-use native.Mathlib.Omega.{arith}
 use mathlib.Core.Path.{_≡_, refl, subst}
 use mathlib.Core.Bool.{Bool, not}
 use mathlib.Core.List.{_∷_}
-use mathlib.Core.Logic.{_↔_, Iff·trans}
+use mathlib.Core.Logic.{Iff·trans}
 use lib.ListN.{length}
 use Rattle.rule.specs.Reach.{Closed}
 use Rattle.rule.specs.Drawing.{Drawing, states, events, count, initial, stateNo, eventNo}
@@ -14,8 +13,6 @@ use Rattle.rule.specs.Refusals.{refuseIf, firstOf, entries, members, excess, mo
 use Rattle.rule.specs.Given.{Table, FirstCell, LowestPair, BadEntry, BadMember, TooMuch, Forbidden, StopsBy, BothEmpty}
 use Rattle.rule.specs.declared.Refusal.{Refusal}
 use Rattle.rule.specs.declared.Refusal.the-variants.{Class, Range, Distance, Entry, Member, Excess, Move, Stopping, Empty}
-use Rattle.rule.specs.declared.Verdict.{Verdict}
-use Rattle.rule.specs.declared.Verdict.the-variants.{Refused}
 use Rattle.rule.proofs.SetLaws.{below-or}
 use Rattle.rule.proofs.BoolLaws.{Fails, fails-say}
 use Rattle.rule.proofs.GivenLaws.{entries-sound, entries-refused, members-refused, excess-refused, moves-refused, stopped-refused, empties-refused}

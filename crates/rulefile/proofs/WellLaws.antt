@@ -4,7 +4,7 @@ use Prim.Native.Nat.{ℕ, _*_}
 use mathlib.Core.Path.{_≡_}
 use mathlib.Core.List.{List}
 use lib.ListN.{length}
-use Rattle.rule.specs.Drawing.{Drawing, states, events, count}
+use Rattle.rule.specs.Drawing.{states, events, count}
 use Rattle.rule.specs.Range.{Shaped}
 use Rattle.rule.specs.WellDrawn.{WellDrawn}
 use Rattle.rule.proofs.ClassLaws.{well-drawn}

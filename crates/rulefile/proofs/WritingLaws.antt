@@ -4,7 +4,9 @@ use mathlib.Core.Path.{_≡_, refl, sym, ap, _∙_}
 use mathlib.Core.List.{List, [], _∷_, _++_}
 use Prim.Native.Nat.{ℕ, _+_, _-_, _*_, _≤_, _<_}
 use native.Mathlib.Omega.{arith}
-use borrow.Author.Tests.{le-leb, lt-leb}
+use native.Mathlib.Decide.{decLe}
+use borrow.Author.Tests.{le-leb, lt-leb, leb-true, leb-false, not-true, not-false}
+use mathlib.Core.Bool.{Bool, true, false, not}
 use lib.Dec.{leb}
 use lib.ListN.{length, take, length-append}
 use lib.Seq.{length-take-le}
@@ -30,13 +32,14 @@ use Rattle.trailer.proofs.SoundLaws.{classed-says, ranged-says, passed, cells-i
 use Rattle.trailer.specs.Layout.{trailerOut}
 use Rattle.rulefile.specs.Layout.{pairsOut, fileOf}
 use Rattle.rule.specs.Putting.{PutPromise}
-use Rattle.rulefile.specs.Writing.{noted, measureConditions, verdictOf}
+use Rattle.rulefile.specs.Writing.{noted, measureConditions, verdictOf, parts, FilePromise}
 use Rattle.rule.specs.declared.Written.{Written}
 use Rattle.rule.specs.declared.Written.the-variants.{Done, Refused}
 use Rattle.checks.specs.Checked.{checkedOf}
 use Rattle.checks.proofs.CheckLaws.{conditions-note}
 use Rattle.checks.proofs.HeldLaws.{in-range}
-use Rattle.rulefile.proofs.LayoutLaws.{length-pairsOut, length-trailerOut, pairsOut-take}
+use Rattle.trailer.proofs.LayoutLaws.{length-trailerOut}
+use Rattle.rulefile.proofs.LayoutLaws.{length-pairsOut, pairsOut-take}
 
 -- 4 of a rule by value, after two conditions of which the first refusal is v
 
@@ -67,12 +70,26 @@ measured-sound s length e =
 
 -- a file put by its parts
 
+module _ (a b c room : ℕ) where
+  pub fit-first : room < a → false ≡ leb (a + b + c) room
+  fit-first h = sym (lt-leb (a + b + c) room (omega arith))
+
+  pub fit-second : a ≤ room → room - a < b → false ≡ leb (a + b + c) room
+  fit-second h k = sym (lt-leb (a + b + c) room (omega arith))
+
+  pub fit-all : a ≤ room → b ≤ room - a → leb c (room - a - b) ≡ leb (a + b + c) room
+  fit-all h k = by (decLe c (room - a - b))
+    where
+      by : Dec (c ≤ room - a - b) → leb c (room - a - b) ≡ leb (a + b + c) room
+      by (yes l) = le-leb c (room - a - b) l ∙ sym (le-leb (a + b + c) room (omega arith))
+      by (no l) = lt-leb c (room - a - b) (omega arith) ∙ sym (lt-leb (a + b + c) room (omega arith))
+
 module _ (note table : List ℕ) (s : Shape) (ps : List Pair) where
   abbrev rest : List ℕ
   rest = table ++ (pairsOut ps (s .pairs) ++ trailerOut s)
 
   abbrev size : ℕ
-  size = length note + length table + 16 * s .pairs + 12
+  size = length note + length table + (16 * s .pairs + 12)
 
   length-rest : length note + length rest ≡ size
   length-rest =
@@ -81,12 +98,18 @@ module _ (note table : List ℕ) (s : Shape) (ps : List Pair) where
   size-is : size ≡ length (note ++ rest)
   size-is = sym (length-append note rest ∙ length-rest)
 
-  pub file-no-room : (out : List ℕ) → length out < size → PutPromise Sound (note ++ rest) out (Refused Room) out
-  file-no-room out h = keeps-no-room refl (rw size-is at h)
+  module _ (out : List ℕ) {fits : Bool} (is : fits ≡ leb size (length out)) where
+    pub file-no-room : not fits ≡ true → FilePromise (parts s note table ps) out (Refused Room) out
+    unfolding fileOf
+    file-no-room h = keeps-no-room refl (rw size-is at (leb-false size (length out) (sym is ∙ not-true fits h)))
+
+    pub room-for : not fits ≡ false → size ≤ length out
+    room-for h = leb-true size (length out) (sym is ∙ not-false fits h)
 
   -- the note was copied to the front, and the rest was filled
   pub file-put : (out : List ℕ) {l last : List ℕ} → size ≤ length out → l ≡ copied note out → last ≡ rest
-      → PutPromise Sound (note ++ rest) out (Done size) (putMid (length note) (size - length note) l last)
+      → FilePromise (parts s note table ps) out (Done size) (putMid (length note) (size - length note) l last)
+  unfolding fileOf
   file-put out h is full =
       let k : length rest ≡ size - length note = omega (arith, length-rest) in
       let m : length note + (size - length note) ≡ size = omega arith in
@@ -105,9 +128,6 @@ module _ (r : Rule) {v : Verdict} (head : v ≡ firstOf (measureConditions (r .s
     measured : Measured (r .shape) (r .length)
     measured = measured-sound (r .shape) (r .length) (sym head ∙ sound)
 
-    pub pairs-few : r .shape .pairs ≤ 8
-    pairs-few = measured .ranged .few-pairs
-
     -- the note and the table that are used lie in their arrays
     pub note-in-array : length (r .note) ≡ 1024 → r .length ≤ length (r .note)
     note-in-array e = rw e (measured .note-in)
@@ -115,17 +135,11 @@ module _ (r : Rule) {v : Verdict} (head : v ≡ firstOf (measureConditions (r .s
     pub note-taken : length (r .note) ≡ 1024 → r .length ≡ length (take (r .length) (r .note))
     note-taken e = sym (length-take-le (r .length) (r .note) (note-in-array e))
 
-    pub note-short : length (r .note) ≡ 1024 → length (take (r .length) (r .note)) ≤ 1024
-    note-short e = rw (← note-taken e) (measured .note-in)
-
     pub table-in-array : length (r .table) ≡ 2048 → r .shape .states * r .shape .events ≤ length (r .table)
     table-in-array e = rw e (cells-in (measured .ranged))
 
     pub table-taken : length (r .table) ≡ 2048 → r .shape .states * r .shape .events ≡ length (take (r .shape .states * r .shape .events) (r .table))
     table-taken e = sym (length-take-le (r .shape .states * r .shape .events) (r .table) (table-in-array e))
-
-    pub table-short : length (r .table) ≡ 2048 → length (take (r .shape .states * r .shape .events) (r .table)) ≤ 2048
-    table-short e = rw (← table-taken e) (cells-in (measured .ranged))
 
     -- 5 to 10
     module _ {w : Verdict} (checked : w ≡ checkedOf (r .shape) (take (r .shape .states * r .shape .events) (r .table)) (r .pairs)) where
@@ -143,8 +157,7 @@ module _ (r : Rule) {v : Verdict} (head : v ≡ firstOf (measureConditions (r .s
 
       -- the file by its parts is that of the rule
       pub rule-put : {out : List ℕ} {a : Written} {out′ : List ℕ} → w ≡ Sound
-          → PutPromise Sound (take (r .length) (r .note) ++ (take (r .shape .states * r .shape .events) (r .table)
-          ++ (pairsOut (r .pairs) (r .shape .pairs) ++ trailerOut (r .shape)))) out a out′
+          → FilePromise (parts (r .shape) (take (r .length) (r .note)) (take (r .shape .states * r .shape .events) (r .table)) (r .pairs)) out a out′
           → PutPromise (verdictOf r) (fileOf (drawn r)) out a out′
       unfolding fileOf drawn
       rule-put e p = rw (sym told ∙ e, pairsOut-take (r .pairs) (r .shape .pairs)) p

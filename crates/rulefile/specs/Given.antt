@@ -2,14 +2,14 @@
 -- Assumes nothing.
 use Prim.Native.Nat.{ℕ, _-_, _<_}
 use mathlib.Core.Path.{_≡_}
-use mathlib.Core.List.{List, _∷_, _++_}
+use mathlib.Core.List.{List, [], _∷_, _++_}
 use mathlib.Core.Logic.{_⊎_}
 use lib.ListN.{length, getD, drop}
 use Rattle.rule.specs.Drawing.{Drawing, initial, drawn}
 use Rattle.rule.specs.Range.{ruleLimits, mostPairs, longestNote, Outside, OutOfRange}
 use Rattle.rule.specs.Refusals.{conditionsOrder}
 use Rattle.rule.specs.Putting.{Put, putOrder}
-use Rattle.rule.specs.Given.{Table, FirstCell, LowestPair, BadEntry, BadMember, TooMuch, Forbidden, StopsBy, BothEmpty}
+use Rattle.rule.specs.Given.{Table, NoRows, FirstCell, LowestPair, BadEntry, BadMember, TooMuch, Forbidden, StopsBy, BothEmpty}
 use Rattle.rule.specs.declared.Rule.{Rule}
 use Rattle.rule.specs.declared.StateNo.{StateNo}
 use Rattle.rule.specs.declared.EventNo.{EventNo}
@@ -82,3 +82,10 @@ writingOrder = putOrder drawingOrder
 
 abbrev pub Writing : Rule → ℕ → Table
 Writing r room = Put (DrawingRow (drawn r) (LongNote (r .length))) (length (fileOf (drawn r))) room
+
+-- putting a drawing's file looks at nothing: 16 where it does not fit
+abbrev pub filingOrder : List ℕ
+filingOrder = putOrder []
+
+abbrev pub Filing : Drawing → ℕ → Table
+Filing d room = Put NoRows (length (fileOf d)) room

@@ -5,7 +5,6 @@ ghost use Prim.Native.Nat.{_*_, _≤_};
 ghost use lib.ListN.{length};
 ghost use Rattle.rule.specs.Drawing.{noPair, padded};
 ghost use Rattle.rule.specs.declared.Verdict.the-variants.{Refused};
-ghost use Rattle.trailer.specs.Layout.{trailerOf};
 ghost use Rattle.rulefile.specs.Layout.{pairIn, upTo};
 ghost use Rattle.rulefile.specs.Reading.{partsBy};
 use crate::Contents;
@@ -14,28 +13,6 @@ use rule::Refusal;
 use rule::Shape;
 use rule::StateNo;
 use rule::Verdict;
-use trailer::Trailer;
-
-// What the last twelve bytes say.
-pub(crate) fn trailer_of(bytes: &[u8]) -> Trailer
-    requires { ⌜ length (now bytes) ≡ 12 ⌝ }
-    ensures { λ r. ⌜ r ≡ trailerOf (now (bytes .entry)) ⌝ }
-{
-    let tableback = octets::number(&bytes[6..8]) as usize;
-    let pairsback = octets::number(&bytes[8..10]) as usize;
-    Trailer {
-        shape: Shape {
-            class: bytes[0],
-            states: bytes[1],
-            events: bytes[2],
-            pairs: bytes[3],
-            initial: StateNo(bytes[4]),
-            mode: bytes[5],
-        },
-        tableback,
-        pairsback,
-    }
-}
 
 // The pairs that stand in some bytes, and then empty ones.
 pub(crate) fn pairs_of(bytes: &[u8], count: u8) -> [Pair; 8]

@@ -34,7 +34,7 @@ pub fn parts(file: &[u8]) -> Contents
         return layout::refused(Refusal::Frame);
     }
     let len = file.len();
-    let trailer = layout::trailer_of(&file[len - trailer::SIZE..]);
+    let trailer = trailer::trailer_of(&file[len - trailer::SIZE..]);
     let verdict = trailer::check_trailer(trailer, len);
     if let Verdict::Refused(refusal) = verdict {
         return layout::refused(refusal);

@@ -11,3 +11,9 @@ check-shape-one-answer κs a x y = (x .told ∙ sym (y .told), refl)
 
 pub check-trailer-one-answer : OneAnswer proofs.check_trailer.ended proofs.check_trailer.Reads.Learnt
 check-trailer-one-answer κs a x y = (x .told ∙ sym (y .told), refl)
+
+pub trailer-of-one-answer : OneAnswer proofs.trailer_of.ended proofs.trailer_of.Reads.Learnt
+trailer-of-one-answer κs a x y = (x .told ∙ sym (y .told), refl)
+
+pub put-trailer-one-answer : OneAnswer proofs.put_trailer.ended proofs.put_trailer.Reads.Learnt
+put-trailer-one-answer κs a x y = (refl, λ i. ((x .told ∙ sym (y .told)) i, (tt, tt)))

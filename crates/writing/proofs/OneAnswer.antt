@@ -5,3 +5,7 @@ use Rattle.writing.proofs
 
 pub write-one-answer : OneAnswer proofs.write.ended proofs.write.Reads.Learnt
 write-one-answer κs a x y = (x .told .answer ∙ sym (y .told .answer), λ i. (tt, ((x .told .output ∙ sym (y .told .output)) i, tt)))
+
+pub put-file-one-answer : OneAnswer proofs.put_file.ended proofs.put_file.Reads.Learnt
+put-file-one-answer κs a x y =
+    (x .told .answer ∙ sym (y .told .answer), λ i. (tt, (tt, (tt, (tt, ((x .told .output ∙ sym (y .told .output)) i, tt))))))

@@ -2,13 +2,13 @@
 ghost use mathlib.Core.Path.{_≡_};
 ghost use mathlib.Core.List.{_++_};
 ghost use Prim.Native.Nat.{_+_, _*_, _≤_};
-ghost use lib.ListN.{length};
+ghost use lib.Dec.{leb};
+ghost use lib.ListN.{length, getD};
+ghost use Rattle.rule.specs.Drawing.{noPair};
 ghost use Rattle.rule.specs.Refusals.{firstOf};
-ghost use Rattle.rule.specs.declared.Verdict.the-variants.{Sound};
 ghost use Rattle.trailer.specs.Layout.{trailerOut};
 ghost use Rattle.rulefile.specs.Layout.{pairOut, pairsOut};
-ghost use Rattle.rule.specs.Putting.{PutPromise};
-ghost use Rattle.rulefile.specs.Writing.{measureConditions, WritePromise};
+ghost use Rattle.rulefile.specs.Writing.{measureConditions, parts, FilePromise, WritePromise};
 use rule::Pair;
 use rule::Refusal;
 use rule::Rule;
@@ -40,59 +40,44 @@ fn put_pair(out: &mut [u8], pair: Pair)
     octets::put_number(&mut out[8..16], pair.p);
 }
 
+// Pair i, and past the array the empty pair.
+fn pair_at(pairs: [Pair; 8], i: usize) -> Pair
+    ensures { λ r. ⌜ r ≡ getD pairs i noPair ⌝ }
+{
+    if i < 8 {
+        return pairs[i];
+    }
+    Pair { r: 0, p: 0 }
+}
+
 // Fills a slice with the first of some pairs.
 fn put_pairs(out: &mut [u8], pairs: [Pair; 8], count: u8)
-    requires { ⌜ (count ≤ 8) × (length (now out) ≡ 16 * count) ⌝ }
+    requires { ⌜ length (now out) ≡ 16 * count ⌝ }
     ensures { λ _. ⌜ now (out .exit) ≡ pairsOut pairs count ⌝ }
 {
     let end = count as usize;
     let mut i: usize = 0;
     while i < end {
-        let pair = pairs[i];
+        let pair = pair_at(pairs, i);
         let at = 16 * i;
         put_pair(&mut out[at..at + 16], pair);
         i += 1;
     }
 }
 
-// Fills twelve bytes with the trailer of a shape.
-fn put_trailer(out: &mut [u8], shape: Shape)
-    requires { ⌜ length (now out) ≡ 12 ⌝ }
-    ensures { λ _. ⌜ now (out .exit) ≡ trailerOut shape ⌝ }
-{
-    let pairs = trailer::SIZE + trailer::PAIR * (shape.pairs as usize);
-    let table = pairs + (shape.states as usize) * (shape.events as usize);
-    let initial = shape.initial;
-    let bytes = [
-        shape.class,
-        shape.states,
-        shape.events,
-        shape.pairs,
-        initial.0,
-        shape.mode,
-        (table % 256) as u8,
-        (table / 256 % 256) as u8,
-        (pairs % 256) as u8,
-        (pairs / 256 % 256) as u8,
-        72,
-        82,
-    ];
-    octets::copy(&bytes, out);
-}
-
 // Fills a slice with the used pairs and the trailer.
 fn put_end(out: &mut [u8], shape: Shape, pairs: [Pair; 8])
-    requires { ⌜ (shape .pairs ≤ 8) × (length (now out) ≡ 16 * shape .pairs + 12) ⌝ }
+    requires { ⌜ length (now out) ≡ 16 * shape .pairs + 12 ⌝ }
     ensures { λ _. ⌜ now (out .exit) ≡ pairsOut pairs (shape .pairs) ++ trailerOut shape ⌝ }
 {
     let end = trailer::PAIR * (shape.pairs as usize);
     put_pairs(&mut out[0..end], pairs, shape.pairs);
-    put_trailer(&mut out[end..], shape);
+    trailer::put_trailer(&mut out[end..], shape);
 }
 
 // Fills a slice with all that stands after the note: the table, the used pairs and the trailer.
 fn fill(out: &mut [u8], table: &[u8], shape: Shape, pairs: [Pair; 8])
-    requires { ⌜ (shape .pairs ≤ 8) × (length (now out) ≡ length (now table) + (16 * shape .pairs + 12)) ⌝ }
+    requires { ⌜ length (now out) ≡ length (now table) + (16 * shape .pairs + 12) ⌝ }
     ensures { λ _. ⌜ now (out .exit) ≡ now (table .entry) ++ (pairsOut pairs (shape .pairs) ++ trailerOut shape) ⌝ }
 {
     let cells = table.len();
@@ -100,19 +85,46 @@ fn fill(out: &mut [u8], table: &[u8], shape: Shape, pairs: [Pair; 8])
     put_end(&mut out[cells..], shape, pairs);
 }
 
-// Puts a file to the front of the output, by its parts: refusal 16.
-fn put_file(out: &mut [u8], note: &[u8], table: &[u8], shape: Shape, pairs: [Pair; 8]) -> Written
-    requires { ⌜ (shape .pairs ≤ 8) × (length (now note) ≤ 1024) × (length (now table) ≤ 2048) ⌝ }
-    ensures { λ r. ⌜ PutPromise Sound (now (note .entry) ++ (now (table .entry) ++ (pairsOut pairs (shape .pairs) ++ trailerOut shape))) (now (out .entry)) r (now (out .exit)) ⌝ }
+// Puts the file that has these parts to the front of an output that has room for it.
+fn put_parts(shape: Shape, note: &[u8], table: &[u8], pairs: [Pair; 8], out: &mut [u8]) -> Written
+    requires { ⌜ length (now note) + length (now table) + (16 * shape .pairs + 12) ≤ length (now out) ⌝ }
+    ensures { λ r. ⌜ FilePromise (parts shape (now (note .entry)) (now (table .entry)) pairs) (now (out .entry)) r (now (out .exit)) ⌝ }
 {
     let start = note.len();
-    let size = start + table.len() + trailer::PAIR * (shape.pairs as usize) + trailer::SIZE;
-    if out.len() < size {
-        return Written::Refused(Refusal::Room);
-    }
+    let size = start + table.len() + (trailer::PAIR * (shape.pairs as usize) + trailer::SIZE);
     octets::copy(note, out);
     fill(&mut out[start..size], table, shape, pairs);
     Written::Done(size)
+}
+
+// Whether parts of these sizes, one after the other, fit into so much room. No sum of them is taken, which could be too large.
+fn fit(note: usize, table: usize, end: usize, room: usize) -> bool
+    ensures { λ r. ⌜ r ≡ leb (note + table + end) room ⌝ }
+{
+    if room < note {
+        return false;
+    }
+    if room - note < table {
+        return false;
+    }
+    end <= room - note - table
+}
+
+// Puts the file that has these parts to the front of the output, unchecked: refusal 16. Past the array a pair is empty.
+pub fn put_file(
+    shape: Shape,
+    note: &[u8],
+    table: &[u8],
+    pairs: [Pair; 8],
+    out: &mut [u8],
+) -> Written
+    ensures { λ r. ⌜ FilePromise (parts shape (now (note .entry)) (now (table .entry)) pairs) (now (out .entry)) r (now (out .exit)) ⌝ }
+{
+    let end = trailer::PAIR * (shape.pairs as usize) + trailer::SIZE;
+    if !fit(note.len(), table.len(), end, out.len()) {
+        return Written::Refused(Refusal::Room);
+    }
+    put_parts(shape, note, table, pairs, out)
 }
 
 // Writes a rule to the front of the output: the refusals 2, 3, 4 for the note, 5 to 10, then 16.
@@ -133,5 +145,5 @@ pub fn write(rule: Rule, out: &mut [u8]) -> Written
         return Written::Refused(refusal);
     }
     let note = rule.note;
-    put_file(out, &note[..length], &table[..cells], shape, pairs)
+    put_file(shape, &note[..length], &table[..cells], pairs, out)
 }

@@ -2,7 +2,8 @@
 -- Assumes nothing.
 use borrow.Author.Needs.{needs}
 use Prim.Native.Nat.{_-_, _≤_}
-use mathlib.Core.Path.{_≡_, refl}
+use mathlib.Core.Path.{_≡_, refl, _∙_}
+use mathlib.Core.Logic.{⊎-elim}
 use native.Mathlib.Omega.{arith}
 use lib.ListN.{take}
 use Rattle.rule.specs.Refusals.{firstBelow, firstCell}
@@ -36,7 +37,12 @@ loop-holds : tie.Need-loop-holds Inv-loop μ-loop Inv-rows μ-rows
 loop-holds c = (omega arith, search needs, below-none _)
 
 loop-again : tie.Need-loop-again Inv-loop μ-loop Inv-rows μ-rows
-loop-again c = (omega arith, search needs, search (needs, move-more))
+loop-again c =
+    let l = c .before .before .before .before .before .loop in
+    let row = c .before .before .before .before .before .before in
+    let a = row .before .before .before .before .before .before .args in
+    let by = ⊎-elim (λ w. w .2 ∙ w .1 .ensures ∙ row .banned .ensures _ (w .0 .taken)) (λ w. w .2 ∙ w .1 .ensures) (c .before .if2 .came) in
+    (omega arith, search needs, move-more (a .shape) _ (a .pairs) _ (l .e) (c .before .before .before .next .ensures) by (l .inv .2) (c .if3 .left))
 
 rows-again : tie.Need-rows-again Inv-loop μ-loop Inv-rows μ-rows
 rows-again c = (omega arith, search needs, search (needs, cells-more))
@@ -45,7 +51,11 @@ returns-2 : tie.Need-returns-2 Inv-loop μ-loop Inv-rows μ-rows
 returns-2 c = search (needs, moves-all)
 
 returns-3 : tie.Need-returns-3 Inv-loop μ-loop Inv-rows μ-rows
-returns-3 c = search (needs, move-hit)
+returns-3 c =
+    let l = c .before .before .before .before .before .loop in
+    let row = c .before .before .before .before .before .before in
+    let by = ⊎-elim (λ w. w .2 ∙ w .1 .ensures ∙ row .banned .ensures _ (w .0 .taken)) (λ w. w .2 ∙ w .1 .ensures) (c .before .if2 .came) in
+    move-hit _ _ _ _ (l .e) (c .before .before .before .next .ensures) by (search needs) (l .inv .2) (c .if3 .taken) (search needs) (search needs)
 
 pub check-moves-spec : {M : Type 1} → statement M
 check-moves-spec =
@@ -59,6 +69,7 @@ check-moves-spec =
     rows-holds
     (λ c κs. search needs)
     loop-holds
+    (λ c κs. search needs)
     (λ c κs. search needs)
     (λ c κs. search needs)
     (λ c. omega arith)

@@ -3,7 +3,7 @@
 use borrow.Author.Needs.{needs}
 use mathlib.Core.Path.{_≡_, sym, _∙_}
 use Rattle.rulefile.specs.Reading.{verdictOn}
-use Rattle.rulefile.proofs.ReadingLaws.{frame-wrong, frame-long, trailer-long, head-wrong, table-in-file, pairs-in-file}
+use Rattle.rulefile.proofs.ReadingLaws.{frame-wrong, frame-long, head-wrong, table-in-file, pairs-in-file}
 use Rattle.rulefile.proofs.ReadingLaws.{table-before-pairs, pairs-before-trailer, pairs-few, pairs-whole, body-told, parts-refused, body-right}
 use Rattle.rulefile.proofs.parts.Statement.{statement}
 use Rattle.rulefile.proofs.parts.Tie as tie
@@ -13,9 +13,6 @@ returns c = search (needs, frame-wrong)
 
 sub-trailer-of : tie.Need-sub-trailer-of
 sub-trailer-of c = search (needs, frame-long)
-
-trailer-of-requires : tie.Need-trailer-of-requires
-trailer-of-requires c κs = search (needs, trailer-long)
 
 returns-2 : tie.Need-returns-2
 returns-2 c = search (needs, head-wrong)
@@ -67,7 +64,7 @@ parts-spec =
     (λ c. search needs)
     (λ c. search needs)
     (λ c. search needs)
-    trailer-of-requires
+    (λ c κs. search needs)
     (λ c κs. search needs)
     (λ c. search needs)
     (λ c κs. search needs)

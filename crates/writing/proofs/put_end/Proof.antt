@@ -2,8 +2,11 @@
 -- Assumes nothing.
 use borrow.Author.Needs.{needs}
 use Prim.Native.Nat.{_*_}
+use mathlib.Core.Path.{sym, _∙_}
+use Rattle.octets.proofs.CopyLaws.{copied-full}
 use Rattle.octets.proofs.ListLaws.{part-rest}
 use Rattle.trailer.specs.Layout.{trailerOut}
+use Rattle.trailer.proofs.LayoutLaws.{length-trailerOut}
 use Rattle.rulefile.specs.Layout.{pairsOut}
 use Rattle.rulefile.proofs.LayoutLaws.{length-pairsOut}
 use Rattle.writing.proofs.put_end.Statement.{statement}
@@ -12,7 +15,8 @@ use Rattle.writing.proofs.put_end.Tie as tie
 returns : tie.Need-returns
 returns c =
     let a = c .before .before .before .before .before .before .before .before .before .before .args in
-    rw (c .before .before .before .before .before .before .put-pairs .ensures, c .before .before .put-trailer .ensures)
+    let full = c .before .before .put-trailer .ensures ∙ copied-full _ _ (length-trailerOut (a .shape) ∙ sym (search needs)) in
+    rw (c .before .before .before .before .before .before .put-pairs .ensures, full)
     (part-rest (pairsOut (a .pairs) (a .shape .pairs)) (trailerOut (a .shape)) _ (16 * a .shape .pairs) (length-pairsOut (a .pairs) (a .shape .pairs)))
 
 pub put-end-spec : {M : Type 1} → statement M

@@ -1,5 +1,6 @@
 -- `writing::put_pairs` meets its contract: the pairs passed stand in front of what was there.
 -- Assumes nothing.
+use borrow.Author.Needs.{needs}
 use Prim.Native.Nat.{_+_, _-_, _*_, _≤_}
 use mathlib.Core.Path.{_≡_, refl, _∙_}
 use mathlib.Core.List.{_++_, append-nil}
@@ -16,10 +17,10 @@ use Rattle.writing.proofs.put_pairs.Statement.{statement}
 use Rattle.writing.proofs.put_pairs.Tie as tie
 
 abbrev Inv-loop : tie.InvT-loop
-Inv-loop out₀ count pairs end i₀ out i = (i ≤ end) × (end ≡ count) × (out ≡ pairsOut pairs i ++ drop (16 * i) out₀) × (length out ≡ length out₀)
+Inv-loop out₀ pairs count end i₀ out i = (i ≤ end) × (end ≡ count) × (out ≡ pairsOut pairs i ++ drop (16 * i) out₀) × (length out ≡ length out₀)
 
 abbrev μ-loop : tie.MeasureT-loop
-μ-loop out₀ count pairs end i₀ out i = end - i
+μ-loop out₀ pairs count end i₀ out i = end - i
 
 loop-holds : tie.Need-loop-holds Inv-loop μ-loop
 unfolding flatUpTo
@@ -38,10 +39,11 @@ loop-again c =
     let p = c .before .before .put-pair in
     let k : 16 * l .i + 16 - 16 * l .i ≡ 16 = omega arith in
     let n : 16 * (l .i + 1) ≡ 16 * l .i + 16 = omega arith in
-    let q = pairOut (getD (a .t2) (l .i) noPair) in
-    let more : putMid (16 * l .i) 16 (l .out) (p .last .0) ≡ (pairsOut (a .t2) (l .i) ++ q) ++ drop (16 * l .i + 16) (a .out .now)
-    = rw (l .inv .2, p .ensures)
-    (part-more (pairsOut (a .t2) (l .i)) q (a .out .now) (16 * l .i) 16 (length-pairsOut (a .t2) (l .i)) (length-pairOut _)) in (
+    let q = pairOut (getD (a .pairs) (l .i) noPair) in
+    let at = c .before .before .before .before .pair-at .ensures in
+    let more : putMid (16 * l .i) 16 (l .out) (p .last .0) ≡ (pairsOut (a .pairs) (l .i) ++ q) ++ drop (16 * l .i + 16) (a .out .now)
+    = rw (l .inv .2, p .ensures, at)
+    (part-more (pairsOut (a .pairs) (l .i)) q (a .out .now) (16 * l .i) 16 (length-pairsOut (a .pairs) (l .i)) (length-pairOut _)) in (
       omega arith,
       l .inv .1,
       rw (k, n, add-one) more,
@@ -56,7 +58,7 @@ returns c =
     let l = c .before .loop in
     let a = c .before .before .before .args in
     let i : l .i ≡ a .count = omega arith in
-    rw (l .inv .2, i, ← c .before .before .before .pre .1, drop-length, append-nil)
+    rw (l .inv .2, i, ← c .before .before .before .pre, drop-length, append-nil)
 
 pub put-pairs-spec : {M : Type 1} → statement M
 put-pairs-spec =
@@ -65,8 +67,7 @@ put-pairs-spec =
     Inv-loop
     μ-loop
     loop-holds
-    (λ c. omega arith)
-    (λ c. omega arith)
+    (λ c κs. search needs)
     (λ c. omega arith)
     (λ c. omega arith)
     (λ c. omega arith)

@@ -2,8 +2,7 @@
 -- Assumes nothing.
 use borrow.Author.Needs.{needs}
 use Rattle.rule.proofs.ByteLaws.{product-fits}
-use Rattle.rulefile.proofs.WritingLaws.{head-refused, pairs-few, note-in-array, note-taken, note-short}
-use Rattle.rulefile.proofs.WritingLaws.{table-in-array, table-taken, table-short, body-refused, rule-put}
+use Rattle.rulefile.proofs.WritingLaws.{head-refused, note-in-array, note-taken, table-in-array, table-taken, body-refused, rule-put}
 use Rattle.writing.proofs.write.Statement.{statement}
 use Rattle.writing.proofs.write.Tie as tie
 
@@ -34,9 +33,6 @@ array-share-prefix-table-2 c = search (needs, table-in-array)
 slice-aggregate-put-file-2 : tie.Need-slice-aggregate-put-file-2
 slice-aggregate-put-file-2 c = search (needs, table-taken)
 
-put-file-requires : tie.Need-put-file-requires
-put-file-requires c κs = (search (needs, pairs-few), search (needs, note-short), search (needs, table-short))
-
 returns-3 : tie.Need-returns-3
 returns-3 c = search (needs, rule-put)
 
@@ -61,6 +57,6 @@ write-spec =
     slice-aggregate-put-file
     array-share-prefix-table-2
     slice-aggregate-put-file-2
-    put-file-requires
+    (λ c κs. search needs)
     (λ c. search needs)
     returns-3)

@@ -1,14 +1,12 @@
--- `writing::put_trailer` meets its contract.
+-- `trailer::put_trailer` meets its contract.
 -- Assumes nothing.
 use borrow.Author.Needs.{needs}
-use mathlib.Core.Path.{_∙_}
 use native.Mathlib.Omega.{arith}
 use Rattle.octets.specs.Numbers.{digits}
-use Rattle.octets.proofs.CopyLaws.{copied-full}
 use Rattle.rule.proofs.ByteLaws.{bytes-mul}
 use Rattle.trailer.specs.Layout.{trailerOut}
-use Rattle.writing.proofs.put_trailer.Statement.{statement}
-use Rattle.writing.proofs.put_trailer.Tie as tie
+use Rattle.trailer.proofs.put_trailer.Statement.{statement}
+use Rattle.trailer.proofs.put_trailer.Tie as tie
 
 mul-table : tie.Need-mul-table
 mul-table c =
@@ -22,7 +20,7 @@ add-table c =
 
 returns : tie.Need-returns
 unfolding trailerOut digits
-returns c = c .before .before .copy .ensures ∙ copied-full _ _ (omega arith)
+returns c = c .before .before .copy .ensures
 
 pub put-trailer-spec : {M : Type 1} → statement M
 put-trailer-spec =
