@@ -87,7 +87,7 @@ module _ {T : Table} where
       none p m a x r = let e = ⊎-elim (λ e. e) (λ q. clash q refl) (among-says m n [] .0 a) in not-both p (d x .1 (rw e at r))
 
   -- rows, and then the rows after them
-  append : {l m : List ℕ} {w : Verdict} (v : Verdict) → Answers T l v → (v ≡ Sound → Answers T m w) → Answers T (l ++ m) (orElse v w)
+  pub append : {l m : List ℕ} {w : Verdict} (v : Verdict) → Answers T l v → (v ≡ Sound → Answers T m w) → Answers T (l ++ m) (orElse v w)
   append {l} {m} Sound a rest =
       let b = rest refl in
       record {
