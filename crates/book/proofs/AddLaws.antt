@@ -158,17 +158,16 @@ unfolding AllKeepable
 keepable-last [] x k h = (h, tt)
 keepable-last (y ∷ l) x k h = (k .0, keepable-last l x (k .1) h)
 
-module _ (b : List ℕ) (number : ℕ) (rule : List ℕ) (bytes : Bytes b) (numbered : number < 256) (o : Open b rule) where
+module _ (b : List ℕ) (number : ℕ) (rule : List ℕ) (l : List Filed) (is : IsBookOf b l) (numbered : number < 256) (o : Open b rule) where
   abbrev x : Filed
   x = filed number rule
 
-  added-book : IsBookOf (withRule b number rule) (entriesIn b ++ (x ∷ []))
+  pub added-book : IsBookOf (withRule b number rule) (entriesIn b ++ (x ∷ []))
   added-book =
-      let i = formed-exactly b bytes .0 (o .formed) in
       let short = sound-parts rule {p = partsOf rule} refl (parts-verdict rule {p = partsOf rule} refl ∙ o .sound) .short in
       record {
         few = let r = o .room in rw (length-append (entriesIn b) (x ∷ []), entries-count b) (omega arith);
-        kept = keepable-last (entriesIn b) x (rw (entries-are (i .1)) (i .1 .kept)) (record { numbered = numbered; short = omega arith });
+        kept = keepable-last (entriesIn b) x (rw (entries-are is) (is .kept)) (record { numbered = numbered; short = omega arith });
         is = refl;
       }
 
@@ -189,9 +188,9 @@ module _ (b : List ℕ) (number : ℕ) (rule : List ℕ) (bytes : Bytes b) (numb
   added-parts : (rest : List ℕ) × (withRule b number rule ≡ take (directoryIn b) b ++ (rule ++ rest))
   unfolding bookOf
   added-parts =
-      let l = entriesIn b ++ (x ∷ []) in
-      let rest = directoryOf (afterRules (length l)) l ++ digits 2 (length l) in
-      let rules : rulesOf l ≡ take (directoryIn b) b ++ rule = rules-append (entriesIn b) (x ∷ []) ∙ rw (rules-one x, rules-are b (o .formed)) in
+      let m = entriesIn b ++ (x ∷ []) in
+      let rest = directoryOf (afterRules (length m)) m ++ digits 2 (length m) in
+      let rules : rulesOf m ≡ take (directoryIn b) b ++ rule = rules-append (entriesIn b) (x ∷ []) ∙ rw (rules-one x, rules-are b (o .formed)) in
       (rest, ap (λ (r : List ℕ). r ++ rest) rules ∙ append-assoc (take (directoryIn b) b) rule rest)
 
   old-long : length (take (directoryIn b) b) ≡ directoryIn b
@@ -231,4 +230,5 @@ pub add-adds : (b : List ℕ) (number : ℕ) (rule out : List ℕ) (n : ℕ) (ou
     → Adds b number rule (take n out′)
 add-adds b number rule out n out′ bytes numbered p =
     let d = add-done b number rule out n out′ p in
-    rw (d .1) (with-rule-adds b number rule bytes numbered (d .0))
+    let i = formed-exactly b bytes .0 (d .0 .formed) in
+    rw (d .1) (with-rule-adds b number rule (i .0) (i .1) numbered (d .0))

@@ -126,6 +126,16 @@ module _ (job office : List ℕ) (number age : ℕ) {found : Lookup} (is : found
       let p = from-office (booksVerdict job office) (soughtIn job number age) (soughtIn office number age) start size (sym is ∙ e) in
       sought-inside office (books-formed job office (p .0) .office-formed) number age start size (p .1)
 
+-- the bytes of the part that is handed back
+pub part-bytes : (job office : RefT (List ℕ)) (number age : ℕ) (part : RefT (List ℕ)) → FindPromise job office number age part
+    → now part ≡ bytesBy (lookupOf (now job) (now office) number age) (now job) (now office)
+part-bytes job office number age part p = by (lookupOf (now job) (now office) number age) p
+  where
+    by : (r : Lookup) → PartBy r job office part → now part ≡ bytesBy r (now job) (now office)
+    by (Job start size) q = q .bytes
+    by (Office start size) q = q .bytes
+    by (Refused x) q = q .bytes
+
 -- the returns of `find`: the part that was lent, under a new name
 module _ (job office : RefT (List ℕ)) (number age : ℕ) {found : Lookup} (is : found ≡ lookupOf (now job) (now office) number age) (name : GName) where
   part-of : (whole : RefT (List ℕ)) (start size : ℕ) → PartOf whole start size (slPart whole (byByte start (ptr whole .1)) start (start + size) name)

@@ -19,10 +19,10 @@ use Rattle.rule.specs.declared.Refusal.the-variants.{Book, Missing, Full}
 use Rattle.rule.specs.declared.Verdict.{Verdict}
 use Rattle.rule.specs.declared.Verdict.the-variants.{Sound, Refused as Unsound}
 use Rattle.rule.proofs.BoolLaws.{clash, not-so, so, le-says}
-use Rattle.rule.proofs.NumberLaws.{among-says, among-ahead}
+use Rattle.rule.proofs.NumberLaws.{among-says, among-ahead, Gives}
 use Rattle.rule.proofs.RefusalLaws.{not-both}
 use Rattle.rule.proofs.SetLaws.{below-or}
-use Rattle.rule.proofs.TableLaws.{Within, Answers, Decides, decided, end, then, append, as-rows, sound-exactly, verdict-ends}
+use Rattle.rule.proofs.TableLaws.{Within, Answers, Decides, decided, end, then, append, as-rows, sound-exactly, numbers, verdict-ends}
 use Rattle.rulefile.specs.Given.{Reading, readingOrder, putOrder}
 use Rattle.rulefile.specs.Reading.{verdictOn}
 use Rattle.rulefile.specs.Writing.{writtenTold}
@@ -224,6 +224,9 @@ module _ (job office : List ℕ) (number age : ℕ) where
   -- a refusal is given exactly when its row holds and no earlier one does, and none exactly when no row holds
   pub find-gives : (x : Refusal) → (verdictBy (lookupOf job office number age) ≡ Unsound x) ↔ Given rows x findOrder
   find-gives = find-answers .gives
+
+  pub find-numbers : Gives findOrder (verdictBy (lookupOf job office number age))
+  find-numbers = numbers find-within find-answers
 
   pub find-sound : (verdictBy (lookupOf job office number age) ≡ Sound) ↔ NoRow rows
   find-sound = sound-exactly find-within find-answers

@@ -12,5 +12,7 @@ pub mod GrowthLaws
 pub mod AddLaws
 -- which refusals the calls give
 pub mod GivenLaws
+-- all that is promised of books
+pub mod BooksHold
 -- any two results that a promise allows are equal
 pub mod OneAnswer

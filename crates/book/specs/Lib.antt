@@ -6,3 +6,5 @@ pub mod Finding
 pub mod Adding
 -- the rows of 17, 18 and 26
 pub mod Given
+-- all that is proved of them
+pub mod Books

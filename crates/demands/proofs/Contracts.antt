@@ -20,16 +20,19 @@ use Rattle.checks.specs.Checked.{checkedOf}
 use Rattle.trailer.specs.Conditions.{framed, shapeConditions, headConditions}
 use Rattle.rulefile.specs.Reading.{partsOf, readingOf}
 use Rattle.rulefile.specs.Writing.{WritePromise}
+use Rattle.book.specs.Finding.{lookupOf, FindPromise}
+use Rattle.book.specs.Adding.{AddPromise}
 use Rattle.sheet.specs.Opening.{openedOf}
 use Rattle.making.specs.Making.{MakePromise}
 use Rattle.effects.specs.Effects.{freshRun, StorePromise, DumpPromise}
 use Rattle.monitor.specs.Fresh.{startOf}
 use Rattle.monitor.specs.Event.{EventPromise}
 use Rattle.printed.specs.Printing.{PrintPromise}
-use Rattle.pachallu.specs.Told.{MakeForC, FreshForC, EventForC}
+use Rattle.pachallu.specs.Told.{MakeForC, FindForC, AddForC, FreshForC, EventForC}
 use Rattle.rulefile.proofs as rulefile
 use Rattle.reading.proofs as reading
 use Rattle.writing.proofs as writing
+use Rattle.book.proofs as book
 use Rattle.making.proofs as making
 use Rattle.sheet.proofs as sheet
 use Rattle.monitor.proofs as monitor
@@ -54,6 +57,17 @@ read-keeps κs a x = x .told
 
 pub write-keeps : Keeps writing.write.ended writing.write.Reads.Learnt λ κs a r l. WritePromise (a .0) (now (a .1 .0)) r (l .1 .0)
 write-keeps κs a x = x .told
+
+-- rules in books: looked up, added
+
+pub look-keeps : Keeps book.look.ended book.look.Reads.Learnt λ κs a r l. r ≡ lookupOf (now (a .0)) (now (a .1 .0)) (a .1 .1 .0) (a .1 .1 .1 .0)
+look-keeps κs a x = x .told
+
+pub find-keeps : Keeps book.find.ended book.find.Reads.Learnt λ κs a r l. FindPromise (a .0) (a .1 .0) (a .1 .1 .0) (a .1 .1 .1 .0) r
+find-keeps κs a x = x .told
+
+pub add-keeps : Keeps book.add.ended book.add.Reads.Learnt λ κs a r l. AddPromise (now (a .0)) (a .1 .0) (now (a .1 .1 .0)) (now (a .1 .1 .1 .0)) r (l .1 .1 .1 .0)
+add-keeps κs a x = x .told
 
 -- the sheet: made, opened
 
@@ -89,6 +103,12 @@ print-keeps κs a x = x .told
 
 pub pachallu-make-keeps : Keeps pachallu.pachallu_make.ended pachallu.pachallu_make.Reads.Learnt λ κs a r l. MakeForC (now (a .0)) (now (a .1 .0)) r (l .1 .0)
 pachallu-make-keeps κs a x = x .told
+
+pub pachallu-find-keeps : Keeps pachallu.pachallu_find.ended pachallu.pachallu_find.Reads.Learnt λ κs a r l. FindForC (now (a .0)) (now (a .1 .0)) (a .1 .1 .0) (a .1 .1 .1 .0) r
+pachallu-find-keeps κs a x = x .told
+
+pub pachallu-add-keeps : Keeps pachallu.pachallu_add.ended pachallu.pachallu_add.Reads.Learnt λ κs a r l. AddForC (now (a .0)) (a .1 .0) (now (a .1 .1 .0)) (now (a .1 .1 .1 .0)) r (l .1 .1 .1 .0)
+pachallu-add-keeps κs a x = x .told
 
 pub pachallu-fresh-keeps : Keeps pachallu.pachallu_fresh.ended pachallu.pachallu_fresh.Reads.Learnt λ κs a r l. FreshForC (now (a .0)) r
 pachallu-fresh-keeps κs a x = x .told

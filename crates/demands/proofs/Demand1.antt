@@ -7,6 +7,8 @@ use Rattle.rulefile.specs.Reading.{verdictOn}
 use Rattle.rulefile.specs.Writing.{verdictOf}
 use Rattle.rulefile.proofs.AnswerLaws.{put-one}
 use Rattle.rulefile.proofs.GivenLaws.{look-ends, read-ends, write-ends}
+use Rattle.book.specs.Adding.{withRule, addVerdict}
+use Rattle.book.proofs.GivenLaws.{find-ends, add-ends}
 use Rattle.making.specs.Making.{sheetOf}
 use Rattle.making.proofs.GivenLaws.{make-ends}
 use Rattle.effects.proofs.KeptLaws.{turn-one, store-ends, dump-ends}
@@ -14,7 +16,7 @@ use Rattle.monitor.specs.Event.{turnOf}
 use Rattle.monitor.proofs.FreshLaws.{open-ends, fresh-ends}
 use Rattle.monitor.proofs.GivenLaws.{event-ends}
 use Rattle.printed.proofs.RefusedLaws.{print-kept}
-use Rattle.pachallu.proofs.EndsLaws.{c-make-ends, c-fresh-ends, c-event-ends}
+use Rattle.pachallu.proofs.EndsLaws.{c-make-ends, c-find-ends, c-add-ends, c-fresh-ends, c-event-ends}
 use Rattle.demands.specs.Demand1.{Demand1}
 
 pub demand-1 : Demand1
@@ -24,6 +26,9 @@ demand-1 =
       read = read-ends;
       one-write = λ r out. put-one (verdictOf r) (fileOf (drawn r)) out;
       write = λ r h out w out′ p. write-ends r (h .pairs-long) p;
+      find = find-ends;
+      one-add = λ b number rule out. put-one (addVerdict b rule) (withRule b number rule) out;
+      add = λ b number rule out w out′ p. add-ends b number rule out p;
       one-make = λ f out. put-one (verdictOn f) (sheetOf (drawingIn f)) out;
       make = λ f out w out′ p. make-ends p;
       opening = open-ends;
@@ -33,7 +38,9 @@ demand-1 =
       store = λ next run e memory r memory′ p. store-ends p;
       dump = λ next held e output r output′ p. dump-ends p;
       print-refused = print-kept;
-      c-make = λ rule out r out′ p. c-make-ends p;
+      c-make = λ rule out r out′ p. c-make-ends rule out p;
+      c-find = λ job office number age r p. c-find-ends job office number age p;
+      c-add = λ b number rule out r out′ p. c-add-ends b number rule out p;
       c-fresh = λ sheet r p. c-fresh-ends p;
       c-event = λ sheet state held event memory output r memory′ output′ p. c-event-ends p;
       shape = shape-gives;

@@ -10,6 +10,7 @@ use Prim.Native.Nat.{ℕ}
 use mathlib.Core.Path.{_≡_}
 use mathlib.Core.List.{List, []}
 use lib.ListN.{length}
+use denote.Ref.{RefT, now}
 use Rattle.rule.specs.Drawing.{stateNo, eventNo, zeroRule}
 use Rattle.rule.specs.Refusals.{Numbered, firstOf, verdictTold}
 use Rattle.rule.specs.Given.{Ends}
@@ -24,11 +25,14 @@ use Rattle.rule.specs.declared.Verdict.the-variants.{Refused as Unsound}
 use Rattle.checks.specs.Checked.{checkedOf, checkedOrder}
 use Rattle.trailer.specs.Conditions.{shapeConditions, shapeOrder, headConditions, headOrder}
 use Rattle.trailer.specs.declared.Trailer.{Trailer}
-use Rattle.rulefile.specs.Given.{Reading, readingOrder, Writing, writingOrder}
+use Rattle.rulefile.specs.Given.{Reading, readingOrder, putOrder, Writing, writingOrder}
 use Rattle.rulefile.specs.Reading.{partsBy, partsOf, readingOf}
 use Rattle.rulefile.specs.Writing.{Held, WritePromise, OneWritten, writtenTold}
 use Rattle.rulefile.specs.declared.Written.{Written}
 use Rattle.rulefile.specs.declared.Written.the-variants.{Refused as Unwritten}
+use Rattle.book.specs.Finding.{lookupOf, verdictBy, FindPromise}
+use Rattle.book.specs.Adding.{AddPromise}
+use Rattle.book.specs.Given.{Finding, findOrder, Adding, addOrder}
 use Rattle.making.specs.Given.{Making, makingOrder}
 use Rattle.making.specs.Making.{MakePromise}
 use Rattle.sheet.specs.Opening.{openedOf, openedTold}
@@ -40,8 +44,10 @@ use Rattle.monitor.specs.Fresh.{startOf}
 use Rattle.monitor.specs.Event.{EventPromise}
 use Rattle.monitor.specs.Given.{FreshRow, freshOrder, EventRow, eventOrder}
 use Rattle.printed.specs.Printing.{PrintPromise}
-use Rattle.pachallu.specs.Told.{MakeForC, FreshForC, EventForC, runOf, madeTold, startedTold, answeredTold, MakeKept, FreshKept, EventKept}
+use Rattle.pachallu.specs.Told.{MakeForC, AddForC, FindForC, FreshForC, EventForC, runOf, madeTold, foundTold, startedTold, answeredTold}
+use Rattle.pachallu.specs.Told.{MakeKept, FindKept, FreshKept, EventKept}
 use Rattle.pachallu.specs.declared.Made.{Made}
+use Rattle.pachallu.specs.declared.Found.{Found}
 use Rattle.pachallu.specs.declared.Started.{Started}
 use Rattle.pachallu.specs.declared.Answered.{Answered}
 
@@ -53,6 +59,13 @@ pub record Demand1 : Type 0 where
   pub one-write : (r : Rule) (out : List ℕ) → OneWritten (WritePromise r out)
   pub write : (r : Rule) → Held r → (out : List ℕ) (w : Written) (out′ : List ℕ) → WritePromise r out w out′
       → Ends (Writing r (length out)) writingOrder (writtenTold w) (out′ ≡ out)
+  -- a rule, looked up in two books: 17, 18; refused, an empty part
+  pub find : (job office : RefT (List ℕ)) (number age : ℕ) (part : RefT (List ℕ)) → FindPromise job office number age part
+      → Ends (Finding (now job) (now office) number age) findOrder (verdictTold (verdictBy (lookupOf (now job) (now office) number age))) (now part ≡ [])
+  -- a rule, added to a book: 17, 1 to 10, 26, then 16; refused, the output as it was
+  pub one-add : (b : List ℕ) (number : ℕ) (rule out : List ℕ) → OneWritten (AddPromise b number rule out)
+  pub add : (b : List ℕ) (number : ℕ) (rule out : List ℕ) (w : Written) (out′ : List ℕ) → AddPromise b number rule out w out′
+      → Ends (Adding b number rule (length out)) (putOrder addOrder) (writtenTold w) (out′ ≡ out)
   -- a sheet, made: 1 to 10, then 16; refused, the output as it was
   pub one-make : (f out : List ℕ) → OneWritten (MakePromise f out)
   pub make : (f out : List ℕ) (w : Written) (out′ : List ℕ) → MakePromise f out w out′ → Ends (Making f (length out)) makingOrder (writtenTold w) (out′ ≡ out)
@@ -71,9 +84,13 @@ pub record Demand1 : Type 0 where
       → Ends (DumpTable (length held) (length output)) dumpOrder (answerTold r) (output′ ≡ output)
   -- printing: 16, and the output as it was
   pub print-refused : (f out : List ℕ) (x : Refusal) (out′ : List ℕ) → PrintPromise f out (Unwritten x) out′ → (x ≡ Room) × (out′ ≡ out)
-  -- from C the same three calls, told in numbers; refused, every buffer and the run state that was given are as they were
+  -- from C the same calls, told in numbers; refused, every buffer and the run state that was given are as they were
   pub c-make : (rule out : List ℕ) (r : Made) (out′ : List ℕ) → MakeForC rule out r out′
       → Ends (Making rule (length out)) makingOrder (madeTold r) (MakeKept out r out′)
+  pub c-find : (job office : List ℕ) (number age : ℕ) (r : Found) → FindForC job office number age r
+      → Ends (Finding job office number age) findOrder (foundTold r) (FindKept r)
+  pub c-add : (b : List ℕ) (number : ℕ) (rule out : List ℕ) (r : Made) (out′ : List ℕ) → AddForC b number rule out r out′
+      → Ends (Adding b number rule (length out)) (putOrder addOrder) (madeTold r) (MakeKept out r out′)
   pub c-fresh : (sheet : List ℕ) (r : Started) → FreshForC sheet r → Ends (FreshRow sheet) freshOrder (startedTold r) (FreshKept r)
   pub c-event : (sheet : List ℕ) (state held event : ℕ) (memory output : List ℕ) (r : Answered) (memory′ output′ : List ℕ)
       → EventForC sheet state held event memory output r memory′ output′
