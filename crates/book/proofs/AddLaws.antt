@@ -17,14 +17,14 @@ use Rattle.rule.specs.declared.Verdict.the-variants.{Sound, Refused as Unsound}
 use Rattle.rule.proofs.RefusalLaws.{first-hit, first-more, first-one, first-sound, refuse-sound}
 use Rattle.rulefile.specs.Layout.{flatUpTo}
 use Rattle.rulefile.specs.Reading.{verdictOn, partsOf}
-use Rattle.rulefile.specs.Writing.{PutPromise}
+use Rattle.rule.specs.Putting.{PutPromise}
 use Rattle.rulefile.specs.declared.Contents.{Contents}
-use Rattle.rulefile.specs.declared.Written.{Written}
-use Rattle.rulefile.specs.declared.Written.the-variants.{Done, Refused}
-use Rattle.rulefile.proofs.AnswerLaws.{put-done}
+use Rattle.rule.specs.declared.Written.{Written}
+use Rattle.rule.specs.declared.Written.the-variants.{Done, Refused}
+use Rattle.rule.proofs.PutLaws.{put-done}
 use Rattle.rulefile.proofs.ListLaws.{flat-ext}
 use Rattle.rulefile.proofs.PartsLaws.{sound-parts, parts-verdict}
-use Rattle.rulefile.proofs.WritingLaws.{put-refused}
+use Rattle.rule.proofs.PutLaws.{keeps-refused}
 use Rattle.book.specs.Book.{Filed, filed, rulesOf, entryOf, directoryOf, afterRules, bookOf, Keepable, AllKeepable, IsBookOf}
 use Rattle.book.specs.Directory.{lengthAt, distanceAt, countIn, directoryIn, filled, wellFormed, entriesFrom, entriesIn}
 use Rattle.book.specs.Finding.{Entry, newestFirst, seek, soughtIn}
@@ -99,7 +99,7 @@ grown-is b number rule w =
 module _ (b : List ℕ) (number : ℕ) (rule out : List ℕ) {t : Bool} (well : t ≡ wellFormed b) where
   pub add-bad : not t ≡ true → AddPromise b number rule out (Refused (Book 0)) out
   unfolding addVerdict
-  add-bad h = put-refused (first-hit _ _ (Book 0) (rw (sym well ∙ not-true t h)))
+  add-bad h = keeps-refused (first-hit _ _ (Book 0) (rw (sym well ∙ not-true t h)))
 
   module _ (good : not t ≡ false) where
     formed-is : wellFormed b ≡ true
@@ -115,7 +115,7 @@ module _ (b : List ℕ) (number : ℕ) (rule out : List ℕ) {t : Bool} (well : 
       pub add-file : {r : Refusal} → p .verdict ≡ Unsound r → AddPromise b number rule out (Refused r) out
       unfolding addVerdict
       add-file {r} q =
-          put-refused (first-more _ _ (rw formed-is) ∙ first-hit (verdictOn rule) _ r (sym (parts-verdict rule looked) ∙ q))
+          keeps-refused (first-more _ _ (rw formed-is) ∙ first-hit (verdictOn rule) _ r (sym (parts-verdict rule looked) ∙ q))
 
       module _ (sound : p .verdict ≡ Sound) where
         pub file-short : length rule < 60000
@@ -129,7 +129,7 @@ module _ (b : List ℕ) (number : ℕ) (rule out : List ℕ) {t : Bool} (well : 
               ∙ first-one (refuseIf (leb 1024 (countIn b)) Full) ∙ rw (← e)
 
           pub add-full : 1024 ≤ n → AddPromise b number rule out (Refused Full) out
-          add-full h = put-refused (last-verdict ∙ rw (le-leb 1024 n h))
+          add-full h = keeps-refused (last-verdict ∙ rw (le-leb 1024 n h))
 
           pub add-put : {w : Written} {out′ : List ℕ} → n < 1024 → PutPromise Sound (grown b number rule) out w out′ → AddPromise b number rule out w out′
           add-put h q = rw (last-verdict, lt-leb 1024 n h, ← grown-is b number rule formed-is) q

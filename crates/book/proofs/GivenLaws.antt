@@ -18,18 +18,18 @@ use Rattle.rule.specs.declared.Refusal.{Refusal}
 use Rattle.rule.specs.declared.Refusal.the-variants.{Book, Missing, Full}
 use Rattle.rule.specs.declared.Verdict.{Verdict}
 use Rattle.rule.specs.declared.Verdict.the-variants.{Sound, Refused as Unsound}
-use Rattle.rule.proofs.BoolLaws.{clash, not-so, so, le-says}
+use Rattle.rule.proofs.BoolLaws.{clash, not-so, so, le-says, Fails, fails-say}
 use Rattle.rule.proofs.NumberLaws.{among-says, among-ahead, Gives}
 use Rattle.rule.proofs.RefusalLaws.{not-both}
 use Rattle.rule.proofs.SetLaws.{below-or}
 use Rattle.rule.proofs.TableLaws.{Within, Answers, Decides, decided, end, then, append, as-rows, sound-exactly, numbers, verdict-ends}
-use Rattle.rulefile.specs.Given.{Reading, readingOrder, putOrder}
+use Rattle.rulefile.specs.Given.{Reading, readingOrder}
 use Rattle.rulefile.specs.Reading.{verdictOn}
-use Rattle.rulefile.specs.Writing.{writtenTold}
-use Rattle.rulefile.specs.declared.Written.{Written}
-use Rattle.rulefile.specs.declared.Written.the-variants.{Done, Refused as Unwritten}
-use Rattle.rulefile.proofs.FaultLaws.{Fails, fails-say}
-use Rattle.rulefile.proofs.GivenLaws.{file-within, file-answers, put-gives, put-does, put-ends}
+use Rattle.rule.specs.Putting.{writtenTold, putOrder}
+use Rattle.rule.specs.declared.Written.{Written}
+use Rattle.rule.specs.declared.Written.the-variants.{Done, Refused as Unwritten}
+use Rattle.rule.proofs.PutLaws.{put-gives, put-does, put-ends}
+use Rattle.rulefile.proofs.GivenLaws.{file-within, file-answers}
 use Rattle.book.specs.Book.{Filed, afterRules}
 use Rattle.book.specs.Directory.{spareAt, lengthAt, distanceAt, countIn, directoryIn, filled, wellFormed, entriesIn}
 use Rattle.book.specs.Finding.{soughtIn, pick, booksVerdict, unless, lookupOf, verdictBy, PartBy, FindPromise, times, InForce}

@@ -15,10 +15,10 @@ use Rattle.octets.proofs.ListLaws.{part-length, part-more}
 use Rattle.rule.specs.declared.Refusal.the-variants.{Room}
 use Rattle.rule.specs.declared.Verdict.the-variants.{Sound}
 use Rattle.rulefile.specs.Layout.{flatUpTo}
-use Rattle.rulefile.specs.Writing.{PutPromise}
-use Rattle.rulefile.specs.declared.Written.the-variants.{Done, Refused}
+use Rattle.rule.specs.Putting.{PutPromise}
+use Rattle.rule.specs.declared.Written.the-variants.{Done, Refused}
 use Rattle.rulefile.proofs.ListLaws.{length-flatUpTo}
-use Rattle.rulefile.proofs.WritingLaws.{put-no-room, put-done}
+use Rattle.rule.proofs.PutLaws.{keeps-no-room, keeps-done}
 use Rattle.book.specs.Book.{entryOf}
 use Rattle.book.specs.Directory.{lengthAt, distanceAt, countIn}
 use Rattle.book.specs.Adding.{movedAt, movedOf, lastOf, grown}
@@ -100,11 +100,11 @@ module _ (b : List ℕ) (number : ℕ) (f : List ℕ) (c : ℕ) (is : c ≡ coun
 
   module _ (out : List ℕ) where
     pub book-no-rest : length out < left → PutPromise Sound (grown b number f) out (Refused Room) out
-    book-no-rest h = put-no-room refl (rw length-grown (omega arith))
+    book-no-rest h = keeps-no-room refl (rw length-grown (omega arith))
 
     module _ (room : left ≤ length out) where
       pub book-no-rules : length out - left < rules → PutPromise Sound (grown b number f) out (Refused Room) out
-      book-no-rules h = put-no-room refl (rw length-grown (short rules left (length out) room h))
+      book-no-rules h = keeps-no-room refl (rw length-grown (short rules left (length out) room h))
         where
           short : (x y z : ℕ) → y ≤ z → z - y < x → z < x + y
           short x y z p q = omega arith
@@ -120,7 +120,7 @@ module _ (b : List ℕ) (number : ℕ) (f : List ℕ) (c : ℕ) (is : c ≡ coun
             → PutPromise Sound (grown b number f) out (Done (rules + left)) (putMid rules (rules + left - rules) l last)
         book-put e q =
             let k : rules + left - rules ≡ left = gone rules left in
-            put-done refl (sym length-grown) enough
+            keeps-done refl (sym length-grown) enough
             (rw (k, e ∙ copied-whole (take rules b) out (rw length-rules (le rules left (length out) enough)), q, length-rules, grown-as)
             (part-more (take rules b) rest out rules left length-rules length-rest))
           where

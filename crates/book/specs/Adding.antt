@@ -11,8 +11,8 @@ use Rattle.octets.specs.Numbers.{digits}
 use Rattle.rule.specs.Refusals.{refuseIf, firstOf}
 use Rattle.rule.specs.declared.Refusal.the-variants.{Book, Full}
 use Rattle.rule.specs.declared.Verdict.{Verdict}
-use Rattle.rulefile.specs.Writing.{PutPromise}
-use Rattle.rulefile.specs.declared.Written.{Written}
+use Rattle.rule.specs.Putting.{PutPromise}
+use Rattle.rule.specs.declared.Written.{Written}
 use Rattle.rulefile.specs.Layout.{flatUpTo}
 use Rattle.rulefile.specs.Reading.{verdictOn}
 use Rattle.book.specs.Book.{filed, entryOf, afterRules, bookOf}

@@ -9,9 +9,9 @@ use Rattle.octets.specs.Numbers.{Bytes}
 use Rattle.rule.specs.Given.{Given, NoRow}
 use Rattle.rule.specs.declared.Refusal.{Refusal}
 use Rattle.rule.specs.declared.Verdict.the-variants.{Sound, Refused as Unsound}
-use Rattle.rulefile.specs.Given.{putOrder}
-use Rattle.rulefile.specs.declared.Written.{Written}
-use Rattle.rulefile.specs.declared.Written.the-variants.{Done, Refused as Unwritten}
+use Rattle.rule.specs.Putting.{putOrder}
+use Rattle.rule.specs.declared.Written.{Written}
+use Rattle.rule.specs.declared.Written.the-variants.{Done, Refused as Unwritten}
 use Rattle.book.specs.Book.{Filed, IsBookOf}
 use Rattle.book.specs.Finding.{lookupOf, verdictBy, InForce, Finds}
 use Rattle.book.specs.Adding.{withRule, AddPromise, Adds}

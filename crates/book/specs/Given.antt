@@ -7,7 +7,8 @@ use lib.ListN.{length}
 use Rattle.rule.specs.Given.{Table}
 use Rattle.rule.specs.declared.Refusal.{Refusal}
 use Rattle.rule.specs.declared.Refusal.the-variants.{Book, Missing, Full}
-use Rattle.rulefile.specs.Given.{Reading, readingOrder, Put, putOrder}
+use Rattle.rule.specs.Putting.{Put}
+use Rattle.rulefile.specs.Given.{Reading, readingOrder}
 use Rattle.book.specs.Book.{afterRules}
 use Rattle.book.specs.Directory.{spareAt, lengthAt, distanceAt, countIn, directoryIn, entriesIn}
 use Rattle.book.specs.Finding.{NotThere}

@@ -4,7 +4,7 @@ ghost use mathlib.Core.List.{_++_};
 ghost use Prim.Native.Nat.{_+_, _*_, _≤_, _<_};
 ghost use lib.ListN.{length};
 ghost use Rattle.rule.specs.declared.Verdict.the-variants.{Sound};
-ghost use Rattle.rulefile.specs.Writing.{PutPromise};
+ghost use Rattle.rule.specs.Putting.{PutPromise};
 ghost use Rattle.book.specs.Book.{entryOf};
 ghost use Rattle.book.specs.Directory.{countIn};
 ghost use Rattle.book.specs.Adding.{movedOf, lastOf, grownDirectory, grown};
@@ -12,7 +12,7 @@ use crate::directory::count_in;
 use crate::directory::distance_at;
 use crate::directory::length_at;
 use rule::Refusal;
-use rulefile::Written;
+use rule::Written;
 
 // Fills eight bytes with an entry.
 fn put_entry(out: &mut [u8], number: u8, size: usize, distance: usize)

@@ -8,7 +8,7 @@ mod growth;
 
 use rule::Refusal;
 use rule::Verdict;
-use rulefile::Written;
+use rule::Written;
 
 // Where a book has a rule: its first byte and its length; or it has the number but none so old; or it does not have the number.
 pub enum Sought {

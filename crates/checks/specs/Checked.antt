@@ -5,6 +5,7 @@ use mathlib.Core.Bool.{Bool, not, _&&_}
 use mathlib.Core.List.{List, _∷_}
 use lib.Dec.{leb}
 use Rattle.rule.specs.Drawing.{body}
+use Rattle.rule.specs.Range.{ruleLimits, mostPairs, between}
 use Rattle.rule.specs.Refusals.{refuseIf, firstOf, conditions, conditionsOrder}
 use Rattle.rule.specs.declared.Pair.{Pair}
 use Rattle.rule.specs.declared.Shape.{Shape}
@@ -13,7 +14,7 @@ use Rattle.rule.specs.declared.Verdict.{Verdict}
 
 -- a set can hold the states, and the array the pairs, of which there is one at least
 abbrev pub holds : Shape → Bool
-holds s = leb (s .states) 64 && (leb 1 (s .pairs) && leb (s .pairs) 8)
+holds s = leb (s .states) (ruleLimits .states) && between 1 mostPairs (s .pairs)
 
 -- 3 of a shape that cannot be held, and then the conditions 5 to 10 in order; their numbers
 unfoldable pub checkedOf : Shape → List ℕ → List Pair → Verdict

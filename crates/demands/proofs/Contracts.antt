@@ -9,6 +9,7 @@ use Rattle.contracts.specs.Contract.{Keeps}
 use Rattle.octets.specs.Copies.{copied}
 use Rattle.octets.specs.Numbers as numbers
 use Rattle.octets.specs.Numbers.{digits}
+use Rattle.rule.specs.Range.{inRange}
 use Rattle.rule.specs.Sets.{has, including, Members}
 use Rattle.rule.specs.Reach.{placeOf, target, reachedWithin, reachedSets}
 use Rattle.rule.specs.Drawing.{body}
@@ -24,11 +25,13 @@ use Rattle.book.specs.Finding.{lookupOf, FindPromise}
 use Rattle.book.specs.Adding.{AddPromise}
 use Rattle.sheet.specs.Opening.{openedOf}
 use Rattle.making.specs.Making.{MakePromise}
-use Rattle.effects.specs.Effects.{freshRun, StorePromise, DumpPromise}
+use Rattle.effects.specs.Effects.{freshRun, answerIn, StorePromise, DumpPromise}
+use Rattle.effects.specs.declared.Turn.the-variants.{Move}
+use Rattle.rule.specs.declared.Operation.the-variants.{Halt}
 use Rattle.monitor.specs.Fresh.{startOf}
 use Rattle.monitor.specs.Event.{EventPromise}
 use Rattle.printed.specs.Printing.{PrintPromise}
-use Rattle.pachallu.specs.Told.{MakeForC, FindForC, AddForC, FreshForC, EventForC}
+use Rattle.pachallu.specs.Told.{MakeForC, PrintForC, FindForC, AddForC, FreshForC, EventForC}
 use Rattle.rulefile.proofs as rulefile
 use Rattle.reading.proofs as reading
 use Rattle.writing.proofs as writing
@@ -88,6 +91,9 @@ event-keeps κs a x = x .told
 pub Run-new-keeps : Keeps effects.Run.new.ended effects.Run.new.Reads.Learnt λ κs a r l. r ≡ freshRun (a .0)
 Run-new-keeps κs a x = x .told
 
+pub halt-keeps : Keeps effects.halt.ended effects.halt.Reads.Learnt λ κs a r l. r ≡ answerIn (Move Halt (a .0)) (a .1 .0 .held)
+halt-keeps κs a x = x .told
+
 pub store-keeps : Keeps effects.store.ended effects.store.Reads.Learnt λ κs a r l. StorePromise (a .0) (a .1 .0) (a .1 .1 .0) (now (a .1 .1 .1 .0)) r (l .1 .1 .1 .0)
 store-keeps κs a x = x .told
 
@@ -103,6 +109,9 @@ print-keeps κs a x = x .told
 
 pub pachallu-make-keeps : Keeps pachallu.pachallu_make.ended pachallu.pachallu_make.Reads.Learnt λ κs a r l. MakeForC (now (a .0)) (now (a .1 .0)) r (l .1 .0)
 pachallu-make-keeps κs a x = x .told
+
+pub pachallu-print-keeps : Keeps pachallu.pachallu_print.ended pachallu.pachallu_print.Reads.Learnt λ κs a r l. PrintForC (now (a .0)) (now (a .1 .0)) r (l .1 .0)
+pachallu-print-keeps κs a x = x .told
 
 pub pachallu-find-keeps : Keeps pachallu.pachallu_find.ended pachallu.pachallu_find.Reads.Learnt λ κs a r l. FindForC (now (a .0)) (now (a .1 .0)) (a .1 .1 .0) (a .1 .1 .1 .0) r
 pachallu-find-keeps κs a x = x .told
@@ -121,14 +130,14 @@ pachallu-event-keeps κs a x = x .told
 pub framed-keeps : Keeps trailer.framed.ended trailer.framed.Reads.Learnt λ κs a r l. r ≡ framed (now (a .0))
 framed-keeps κs a x = x .told
 
-pub shaped-keeps : Keeps trailer.shaped.ended trailer.shaped.Reads.Learnt λ κs a r l. r ≡ firstOf (shapeConditions (a .0) (a .1 .0))
-shaped-keeps κs a x = x .told
+pub check-shape-keeps : Keeps trailer.check_shape.ended trailer.check_shape.Reads.Learnt λ κs a r l. r ≡ firstOf (shapeConditions (a .0))
+check-shape-keeps κs a x = x .told
 
-pub headed-keeps : Keeps trailer.headed.ended trailer.headed.Reads.Learnt λ κs a r l. r ≡ firstOf (headConditions (a .0) (a .1 .0))
-headed-keeps κs a x = x .told
+pub check-trailer-keeps : Keeps trailer.check_trailer.ended trailer.check_trailer.Reads.Learnt λ κs a r l. r ≡ firstOf (headConditions (a .0) (a .1 .0))
+check-trailer-keeps κs a x = x .told
 
-pub checked-keeps : Keeps checks.checked.ended checks.checked.Reads.Learnt λ κs a r l. r ≡ checkedOf (a .0) (now (a .1 .0)) (a .1 .1 .0)
-checked-keeps κs a x = x .told
+pub check-body-keeps : Keeps checks.check_body.ended checks.check_body.Reads.Learnt λ κs a r l. r ≡ checkedOf (a .0) (now (a .1 .0)) (a .1 .1 .0)
+check-body-keeps κs a x = x .told
 
 pub banned-keeps : Keeps classes.banned.ended classes.banned.Reads.Learnt λ κs a r l. Members r (forbidsSome (a .0 .class) (take (a .0 .pairs) (a .1 .0)) (a .1 .1 .0 .0))
 banned-keeps κs a x = x .told
@@ -169,6 +178,9 @@ reached-sets-keeps κs a x = x .told
 
 pub place-keeps : Keeps rule.place.ended rule.place.Reads.Learnt λ κs a r l. r ≡ placeOf (a .0) (a .1 .0 .0) (a .1 .1 .0 .0)
 place-keeps κs a x = x .told
+
+pub Limits-hold-keeps : Keeps rule.Limits.hold.ended rule.Limits.hold.Reads.Learnt λ κs a r l. r ≡ inRange (a .0) (a .1 .0) (a .1 .1 .0) (a .1 .1 .1 .0 .0)
+Limits-hold-keeps κs a x = x .told
 
 pub Operation-mark-keeps : Keeps rule.Operation.mark.ended rule.Operation.mark.Reads.Learnt λ κs a r l. r ≡ markOf (a .0)
 Operation-mark-keeps κs a x = x .told

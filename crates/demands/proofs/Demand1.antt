@@ -1,22 +1,24 @@
 -- Demand 1 holds (specs/Demand1). Assumes nothing.
 use Rattle.rule.specs.Drawing.{drawn}
+use Rattle.rule.specs.declared.Verdict.the-variants.{Sound}
 use Rattle.checks.proofs.HeldLaws.{checked-gives}
 use Rattle.trailer.proofs.NumberLaws.{shape-gives, head-gives}
 use Rattle.rulefile.specs.Layout.{drawingIn, fileOf}
 use Rattle.rulefile.specs.Reading.{verdictOn}
 use Rattle.rulefile.specs.Writing.{verdictOf}
-use Rattle.rulefile.proofs.AnswerLaws.{put-one}
+use Rattle.rule.proofs.PutLaws.{put-one}
 use Rattle.rulefile.proofs.GivenLaws.{look-ends, read-ends, write-ends}
 use Rattle.book.specs.Adding.{withRule, addVerdict}
 use Rattle.book.proofs.GivenLaws.{find-ends, add-ends}
-use Rattle.making.specs.Making.{sheetOf}
+use Rattle.sheet.specs.Layout.{sheetOf}
 use Rattle.making.proofs.GivenLaws.{make-ends}
 use Rattle.effects.proofs.KeptLaws.{turn-one, store-ends, dump-ends}
 use Rattle.monitor.specs.Event.{turnOf}
 use Rattle.monitor.proofs.FreshLaws.{open-ends, fresh-ends}
 use Rattle.monitor.proofs.GivenLaws.{event-ends}
-use Rattle.printed.proofs.RefusedLaws.{print-kept}
-use Rattle.pachallu.proofs.EndsLaws.{c-make-ends, c-find-ends, c-add-ends, c-fresh-ends, c-event-ends}
+use Rattle.printed.specs.Printing.{textOf}
+use Rattle.printed.proofs.GivenLaws.{print-ends}
+use Rattle.pachallu.proofs.EndsLaws.{c-put-ends, c-find-ends, c-fresh-ends, c-event-ends}
 use Rattle.demands.specs.Demand1.{Demand1}
 
 pub demand-1 : Demand1
@@ -37,10 +39,12 @@ demand-1 =
       event = λ sheet run e memory output r memory′ output′ p. event-ends sheet run e memory output p;
       store = λ next run e memory r memory′ p. store-ends p;
       dump = λ next held e output r output′ p. dump-ends p;
-      print-refused = print-kept;
-      c-make = λ rule out r out′ p. c-make-ends rule out p;
+      one-print = λ f out. put-one Sound (textOf f) out;
+      print = λ f out w out′ p. print-ends f p;
+      c-make = λ rule out r out′ p. c-put-ends (λ w. make-ends) p;
+      c-print = λ rule out r out′ p. c-put-ends (λ w. print-ends rule) p;
       c-find = λ job office number age r p. c-find-ends job office number age p;
-      c-add = λ b number rule out r out′ p. c-add-ends b number rule out p;
+      c-add = λ b number rule out r out′ p. c-put-ends (λ w. add-ends b number rule out) p;
       c-fresh = λ sheet r p. c-fresh-ends p;
       c-event = λ sheet state held event memory output r memory′ output′ p. c-event-ends p;
       shape = shape-gives;

@@ -17,10 +17,10 @@ use Rattle.rule.proofs.GivenLaws.{conditions-sound}
 use Rattle.rule.proofs.OperationLaws.{laws, sharp}
 use Rattle.rulefile.specs.Layout.{drawingIn}
 use Rattle.rulefile.specs.Reading.{verdictOn}
-use Rattle.rulefile.proofs.AnswerLaws.{put-done, put-room}
+use Rattle.rule.proofs.PutLaws.{put-done, put-room}
 use Rattle.rulefile.proofs.PartsLaws.{sound-file}
-use Rattle.rulefile.proofs.WellLaws.{file-range, file-pairs, file-well}
-use Rattle.making.specs.Making.{sheetOf}
+use Rattle.rulefile.proofs.WellLaws.{file-shaped, file-pairs, file-well}
+use Rattle.sheet.specs.Layout.{sheetOf}
 use Rattle.making.proofs.MakingLaws.{Formed, sheet-opens, sheet-cell}
 use Rattle.making.proofs.FoundLaws.{sound-formed}
 use Rattle.monitor.specs.Fresh.{startOf}
@@ -49,7 +49,7 @@ made-lawful {file} {sheet} made =
     let e : sheet ≡ sheetOf d = made .front ∙ put .front in
     record {
       sheet-is = e;
-      classed = of-class d (file-pairs file S) (file-range file S) (g .2) (g .3);
+      classed = of-class d (file-pairs file S) (file-shaped file S) (g .2) (g .3);
       well = W;
       formed = F;
       lawful = laws d W;

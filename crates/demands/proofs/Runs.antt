@@ -11,13 +11,15 @@ use Rattle.rule.specs.Operations as paper
 use Rattle.rule.specs.Operations.{smallestOf, reachOf, operationAt}
 use Rattle.rule.specs.Stopping.{stopsBy}
 use Rattle.rule.specs.Classes.{movesInto, movesOut, forbids, forbidsSome}
+use Rattle.rule.specs.Range.{inRange}
 use Rattle.rule.specs.Refusals.{firstOf, firstBelow, firstCell, entries, members, exceeds, excess, moves, stopped, empties}
 use Rattle.rule.specs.declared.Verdict.the-variants.{Sound}
 use Rattle.trailer.specs.Conditions.{framed, classed, ranged, placed}
-use Rattle.rulefile.specs.Layout.{trailerOf, upTo, drawingIn, flatUpTo, trailerOut, fileOf}
+use Rattle.trailer.specs.Layout.{trailerOf, trailerOut}
+use Rattle.rulefile.specs.Layout.{upTo, drawingIn, flatUpTo, fileOf}
 use Rattle.rulefile.specs.Reading.{verdictOn}
-use Rattle.making.specs.Making.{sheetOf}
-use Rattle.sheet.specs.Opening.{inRange, opens, openedOf}
+use Rattle.sheet.specs.Layout.{sheetOf}
+use Rattle.sheet.specs.Opening.{opens, openedOf}
 use Rattle.monitor.specs.Event.{cellTurn, lookOf}
 use Rattle.history.specs.History.{History, call}
 use Rattle.demands.specs.Marked.{A, S, G, O, D, Stand, eight, one, all, markOf, marked, found, wanted}
@@ -34,7 +36,7 @@ read-back = refl
 
 -- and none of them is refused
 pub none-refused : map (λ d. verdictOn (fileOf d)) (A ∷ S ∷ G ∷ O ∷ D ∷ []) ≡ Sound ∷ Sound ∷ Sound ∷ Sound ∷ Sound ∷ []
-unfolding fileOf flatUpTo trailerOut digits drawingIn trailerOf upTo valueOf verdictOn firstOf framed classed ranged placed firstBelow firstCell entries members exceeds excess moves stopped empties namesPast isEmpty has insert including meetsBelow meets target withMoves movedBelow movedSet spread reachedWithin reachOf stopsBy movesInto movesOut forbids forbidsSome
+unfolding fileOf flatUpTo trailerOut digits drawingIn trailerOf upTo valueOf verdictOn firstOf framed classed ranged inRange placed firstBelow firstCell entries members exceeds excess moves stopped empties namesPast isEmpty has insert including meetsBelow meets target withMoves movedBelow movedSet spread reachedWithin reachOf stopsBy movesInto movesOut forbids forbidsSome
 none-refused = refl
 
 -- their sheets

@@ -20,16 +20,15 @@ use Rattle.rule.specs.declared.Pair.{Pair}
 use Rattle.rule.specs.declared.Rule.{Rule}
 use Rattle.rule.specs.declared.Shape.{Shape}
 use Rattle.rule.specs.declared.Refusal.{Refusal}
-use Rattle.rule.specs.declared.Refusal.the-variants.{Room}
 use Rattle.rule.specs.declared.Verdict.the-variants.{Refused as Unsound}
 use Rattle.checks.specs.Checked.{checkedOf, checkedOrder}
 use Rattle.trailer.specs.Conditions.{shapeConditions, shapeOrder, headConditions, headOrder}
 use Rattle.trailer.specs.declared.Trailer.{Trailer}
-use Rattle.rulefile.specs.Given.{Reading, readingOrder, putOrder, Writing, writingOrder}
+use Rattle.rulefile.specs.Given.{Reading, readingOrder, Writing, writingOrder}
 use Rattle.rulefile.specs.Reading.{partsBy, partsOf, readingOf}
-use Rattle.rulefile.specs.Writing.{Held, WritePromise, OneWritten, writtenTold}
-use Rattle.rulefile.specs.declared.Written.{Written}
-use Rattle.rulefile.specs.declared.Written.the-variants.{Refused as Unwritten}
+use Rattle.rule.specs.Putting.{OneWritten, writtenTold, putOrder}
+use Rattle.rulefile.specs.Writing.{Held, WritePromise}
+use Rattle.rule.specs.declared.Written.{Written}
 use Rattle.book.specs.Finding.{lookupOf, verdictBy, FindPromise}
 use Rattle.book.specs.Adding.{AddPromise}
 use Rattle.book.specs.Given.{Finding, findOrder, Adding, addOrder}
@@ -43,9 +42,9 @@ use Rattle.effects.specs.declared.Answer.{Answer}
 use Rattle.monitor.specs.Fresh.{startOf}
 use Rattle.monitor.specs.Event.{EventPromise}
 use Rattle.monitor.specs.Given.{FreshRow, freshOrder, EventRow, eventOrder}
-use Rattle.printed.specs.Printing.{PrintPromise}
-use Rattle.pachallu.specs.Told.{MakeForC, AddForC, FindForC, FreshForC, EventForC, runOf, madeTold, foundTold, startedTold, answeredTold}
-use Rattle.pachallu.specs.Told.{MakeKept, FindKept, FreshKept, EventKept}
+use Rattle.printed.specs.Printing.{PrintPromise, Printing, printingOrder}
+use Rattle.pachallu.specs.Told.{MakeForC, PrintForC, AddForC, FindForC, FreshForC, EventForC, runOf}
+use Rattle.pachallu.specs.Told.{madeTold, foundTold, startedTold, answeredTold, PutKept, FindKept, FreshKept, EventKept}
 use Rattle.pachallu.specs.declared.Made.{Made}
 use Rattle.pachallu.specs.declared.Found.{Found}
 use Rattle.pachallu.specs.declared.Started.{Started}
@@ -82,21 +81,24 @@ pub record Demand1 : Type 0 where
       → Ends (StoreTable (run .held) (length memory)) storeOrder (answerTold r) (memory′ ≡ memory)
   pub dump : (next : StateNo) (held : List ℕ) (e : EventNo) (output : List ℕ) (r : Answer) (output′ : List ℕ) → DumpPromise next held e output r output′
       → Ends (DumpTable (length held) (length output)) dumpOrder (answerTold r) (output′ ≡ output)
-  -- printing: 16, and the output as it was
-  pub print-refused : (f out : List ℕ) (x : Refusal) (out′ : List ℕ) → PrintPromise f out (Unwritten x) out′ → (x ≡ Room) × (out′ ≡ out)
+  -- a rule's monitor, printed: 16; refused, the output as it was
+  pub one-print : (f out : List ℕ) → OneWritten (PrintPromise f out)
+  pub print : (f out : List ℕ) (w : Written) (out′ : List ℕ) → PrintPromise f out w out′ → Ends (Printing f (length out)) printingOrder (writtenTold w) (out′ ≡ out)
   -- from C the same calls, told in numbers; refused, every buffer and the run state that was given are as they were
   pub c-make : (rule out : List ℕ) (r : Made) (out′ : List ℕ) → MakeForC rule out r out′
-      → Ends (Making rule (length out)) makingOrder (madeTold r) (MakeKept out r out′)
+      → Ends (Making rule (length out)) makingOrder (madeTold r) (PutKept out r out′)
+  pub c-print : (rule out : List ℕ) (r : Made) (out′ : List ℕ) → PrintForC rule out r out′
+      → Ends (Printing rule (length out)) printingOrder (madeTold r) (PutKept out r out′)
   pub c-find : (job office : List ℕ) (number age : ℕ) (r : Found) → FindForC job office number age r
       → Ends (Finding job office number age) findOrder (foundTold r) (FindKept r)
   pub c-add : (b : List ℕ) (number : ℕ) (rule out : List ℕ) (r : Made) (out′ : List ℕ) → AddForC b number rule out r out′
-      → Ends (Adding b number rule (length out)) (putOrder addOrder) (madeTold r) (MakeKept out r out′)
+      → Ends (Adding b number rule (length out)) (putOrder addOrder) (madeTold r) (PutKept out r out′)
   pub c-fresh : (sheet : List ℕ) (r : Started) → FreshForC sheet r → Ends (FreshRow sheet) freshOrder (startedTold r) (FreshKept r)
   pub c-event : (sheet : List ℕ) (state held event : ℕ) (memory output : List ℕ) (r : Answered) (memory′ output′ : List ℕ)
       → EventForC sheet state held event memory output r memory′ output′
       → Ends (EventRow sheet (runOf state held) (eventNo event) (length memory) (length output)) eventOrder (answeredTold r)
       (EventKept state held memory output r memory′ output′)
   -- the checks alone, of a shape, a trailer, and a table with its pairs, give no other number than these
-  pub shape : (s : Shape) (spare : ℕ) (x : Refusal) → firstOf (shapeConditions s spare) ≡ Unsound x → Numbered shapeOrder x
+  pub shape : (s : Shape) (x : Refusal) → firstOf (shapeConditions s) ≡ Unsound x → Numbered shapeOrder x
   pub head : (t : Trailer) (size : ℕ) (x : Refusal) → firstOf (headConditions t size) ≡ Unsound x → Numbered headOrder x
   pub check : (s : Shape) (table : List ℕ) (pairs : List Pair) (x : Refusal) → checkedOf s table pairs ≡ Unsound x → Numbered checkedOrder x

@@ -10,11 +10,11 @@ use lib.Dec.{eqb}
 use denote.Ref.{RefT, now}
 use Rattle.rule.specs.declared.Verdict.the-variants.{Sound}
 use Rattle.rulefile.specs.Layout.{drawingIn}
-use Rattle.rulefile.specs.declared.Written.the-variants.{Done}
+use Rattle.rule.specs.declared.Written.the-variants.{Done}
 use Rattle.book.specs.Book.{Filed, IsBookOf}
 use Rattle.book.specs.Finding.{lookupOf, verdictBy, FindPromise, times, InForce}
 use Rattle.book.specs.Adding.{AddPromise}
-use Rattle.making.specs.Making.{sheetOf}
+use Rattle.sheet.specs.Layout.{sheetOf}
 use Rattle.effects.specs.declared.Run.{Run}
 use Rattle.history.specs.Course.{Entry}
 use Rattle.history.specs.History.{History}

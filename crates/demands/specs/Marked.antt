@@ -7,7 +7,7 @@ use Rattle.rule.specs.Drawing.{Drawing, stateNo, eventNo}
 use Rattle.rule.specs.declared.Pair.{Pair}
 use Rattle.rule.specs.declared.Operation.{Operation}
 use Rattle.rule.specs.declared.Operation.the-variants.{Halt, Store, Dump}
-use Rattle.making.specs.Making.{sheetOf}
+use Rattle.sheet.specs.Layout.{sheetOf}
 use Rattle.monitor.specs.Fresh.{startOf}
 use Rattle.effects.specs.Effects.{answerIn, memoryIn, outputIn}
 use Rattle.monitor.specs.Event.{turnOf}
@@ -19,7 +19,7 @@ use Rattle.history.specs.History.{logAfter, runAfter, releasedAfter}
 abbrev pub rule : (class states events : ℕ) → (table : List ℕ) → (pairs : List Pair) → Drawing
 rule class states events table pairs =
     record {
-      shape = record { class = class; states = states; events = events; pairs = length pairs; initial = stateNo 0 };
+      shape = record { class = class; states = states; events = events; pairs = length pairs; initial = stateNo 0; mode = 0 };
       note = [];
       table = table;
       pairs = pairs;

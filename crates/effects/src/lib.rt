@@ -1,6 +1,8 @@
 // What an operation does: to the run state, to the memory and to the output (document 01, "What an operation does").
 ghost use mathlib.Core.Path.{_≡_};
-ghost use Rattle.effects.specs.Effects.{freshRun, StorePromise, DumpPromise};
+ghost use Rattle.rule.specs.declared.Operation.the-variants.{Halt};
+ghost use Rattle.effects.specs.Effects.{answerIn, freshRun, StorePromise, DumpPromise};
+ghost use Rattle.effects.specs.declared.Turn.the-variants.{Move};
 use rule::EventNo;
 use rule::Operation;
 use rule::Refusal;
@@ -40,6 +42,20 @@ impl Run {
     }
 }
 
+// Halt: nothing is released and the event is not held; the events already held stay held.
+pub fn halt(next: StateNo, run: Run) -> Answer
+    ensures { λ r. ⌜ r ≡ answerIn (Move Halt next) (run .held) ⌝ }
+{
+    Answer::Taken {
+        operation: Operation::Halt,
+        run: Run {
+            state: next,
+            held: run.held,
+        },
+        released: 0,
+    }
+}
+
 // Store: the event joins the held ones, if the memory has a place for it.
 pub fn store(next: StateNo, run: Run, event: EventNo, memory: &mut [u8]) -> Answer
     ensures { λ r. ⌜ StorePromise next run event (now (memory .entry)) r (now (memory .exit)) ⌝ }
@@ -69,9 +85,10 @@ pub fn dump(next: StateNo, held: &[u8], event: EventNo, output: &mut [u8]) -> An
     }
     octets::copy(held, output);
     output[count] = event.0;
+    let released = count + 1;
     Answer::Taken {
         operation: Operation::Dump,
         run: Run::new(next),
-        released: count + 1,
+        released,
     }
 }

@@ -26,7 +26,8 @@ use Rattle.sheet.specs.declared.Opened.the-variants.{Sheet}
 use Rattle.effects.specs.Effects.{freshRun}
 use Rattle.monitor.specs.Fresh.{startBy}
 use Rattle.effects.specs.Effects.{roomTurn, answerIn, memoryIn, outputIn}
-use Rattle.monitor.specs.Event.{operationOf, cellTurn, lookOf, turnOf, stepTurn}
+use Rattle.sheet.specs.Layout.{operationOf}
+use Rattle.monitor.specs.Event.{cellTurn, lookOf, turnOf, stepTurn}
 use Rattle.effects.specs.declared.Run.{Run}
 use Rattle.monitor.specs.declared.Start.{Start}
 use Rattle.effects.specs.declared.Turn.{Turn}

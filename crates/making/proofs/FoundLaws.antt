@@ -14,12 +14,13 @@ use Rattle.trailer.proofs.SoundLaws.{cells-in}
 use Rattle.rulefile.specs.Layout.{drawingIn}
 use Rattle.rulefile.specs.Reading.{verdictOn, partsOf}
 use Rattle.rulefile.specs.declared.Contents.{Contents}
-use Rattle.rulefile.specs.Writing.{PutPromise}
-use Rattle.rulefile.specs.declared.Written.{Written}
-use Rattle.rulefile.specs.declared.Written.the-variants.{Refused as Declined}
+use Rattle.rule.specs.Putting.{PutPromise}
+use Rattle.rule.specs.declared.Written.{Written}
+use Rattle.rule.specs.declared.Written.the-variants.{Refused as Declined}
 use Rattle.rulefile.proofs.PartsLaws.{sound-file, table-drawn, SoundParts, sound-parts, parts-verdict}
-use Rattle.rulefile.proofs.WritingLaws.{put-refused}
-use Rattle.making.specs.Making.{sheetOf, MakePromise}
+use Rattle.rule.proofs.PutLaws.{keeps-refused}
+use Rattle.sheet.specs.Layout.{sheetOf}
+use Rattle.making.specs.Making.{MakePromise}
 use Rattle.making.proofs.MakingLaws.{Formed, low}
 
 -- of what is drawn in a sound file a sheet can be made
@@ -27,13 +28,8 @@ pub sound-formed : (f : List ℕ) → verdictOn f ≡ Sound → Formed (drawingI
 unfolding drawingIn
 sound-formed f e =
     let s = sound-file f e in
-    let r = s .ranged in
     record {
-      some-states = r .some-states;
-      few-states = r .states-in;
-      some-events = r .some-events;
-      few-events = r .events-in;
-      initial-in = r .initial-in;
+      in-range = s .ranged .numbers;
       cells = table-drawn f s;
       entries-in = entries-sound (drawingIn f) .0 (first-sound _ _ .0 (s .sound) .0);
     }
@@ -48,7 +44,7 @@ module _ (f : List ℕ) (p : Contents) (is : p ≡ partsOf f) where
 
     -- what the sheet's writer asks
     pub found-few : p .shape .states ≤ 64
-    found-few = parts .ranged .states-in
+    found-few = parts .ranged .numbers .few-states
 
     pub found-low : (i : ℕ) → getD (take (p .end - p .start) (drop (p .start) f)) i 0 < p .shape .states
     found-low i = rw (parts .table-is, parts .drawn) (low (sound-formed f sound-is) i)
@@ -63,4 +59,4 @@ module _ (f : List ℕ) (p : Contents) (is : p ≡ partsOf f) where
     made q = rw (sound-is, ← parts .table-is, ← parts .pairs-is, ← parts .drawn) q
 
   pub made-refused : (out : List ℕ) {r : Refusal} → p .verdict ≡ Refused r → MakePromise f out (Declined r) out
-  made-refused out q = put-refused (sym (parts-verdict f is) ∙ q)
+  made-refused out q = keeps-refused (sym (parts-verdict f is) ∙ q)

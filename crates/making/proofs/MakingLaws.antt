@@ -12,12 +12,13 @@ use lib.Seq.{getD-append-add}
 use Rattle.octets.specs.Numbers.{digits}
 use Rattle.rule.specs.Drawing.{Drawing, states, events, initial, next}
 use Rattle.rule.specs.Operations.{markOf, operation}
+use Rattle.rule.specs.Range.{ruleLimits, InRange}
 use Rattle.rule.specs.Reach.{target, Closed}
 use Rattle.rule.specs.declared.Shape.{Shape}
-use Rattle.sheet.specs.Opening.{back, openedOf}
+use Rattle.sheet.specs.Layout.{back, cellOf, endOf, sheetOf}
+use Rattle.sheet.specs.Opening.{openedOf}
 use Rattle.sheet.specs.declared.Opened.the-variants.{Sheet}
 use Rattle.sheet.proofs.OpeningLaws.{opened-when}
-use Rattle.making.specs.Making.{cellAt, endOf, sheetOf}
 use Rattle.making.proofs.CellLaws.{length-sheet}
 
 -- an element of a mapped list
@@ -35,7 +36,7 @@ module _ (d : Drawing) where
   at-end : (k : ℕ) → k ≤ 6 → back (sheetOf d) k ≡ getD (endOf (d .shape)) (6 - k) 0
   unfolding sheetOf
   at-end k h =
-      let front = map (cellAt d) (d .table) in
+      let front = map (cellOf d) (d .table) in
       let end = endOf (d .shape) in
       let n : length (front ++ end) - k ≡ length front + (6 - k) = rw (length-append front end, end-six (d .shape)) (omega arith) in
       rw n (getD-append-add front end (6 - k) 0)
@@ -50,11 +51,7 @@ module _ (d : Drawing) where
 
 -- a drawing of which a sheet can be made
 pub record Formed (d : Drawing) : Type 0 where
-  pub some-states : 1 ≤ states d
-  pub few-states : states d ≤ 64
-  pub some-events : 1 ≤ events d
-  pub few-events : events d ≤ 32
-  pub initial-in : initial d < states d
+  pub in-range : InRange ruleLimits (states d) (events d) (initial d)
   pub cells : length (d .table) ≡ states d * events d
   pub entries-in : Closed (d .table) (states d) (events d)
 
@@ -65,10 +62,10 @@ module _ {d : Drawing} (f : Formed d) where
   low i =
       elim (decLt i (length (d .table))) [
         | yes h ↦
-            let k : 1 ≤ events d = f .some-events in
+            let k : 1 ≤ events d = f .in-range .some-events in
             let s : i / events d < states d = div-lt-iff-lt-mul k .1 (rw (f .cells) at h) in
             rw (div-add-mod' i (events d)) at (f .entries-in (i / events d) (i % events d) s (mod-lt i k))
-        | no h ↦ rw (List·getD-eq-default (d .table) 0 {n = i} (omega arith)) (f .some-states)
+        | no h ↦ rw (List·getD-eq-default (d .table) 0 {n = i} (omega arith)) (f .in-range .some-states)
       ]
 
   pub sheet-length : length (sheetOf d) ≡ states d * events d + 6
@@ -80,20 +77,20 @@ module _ {d : Drawing} (f : Formed d) where
     unfolding sheetOf target
     sheet-cell =
         let n : s * events d + e < length (d .table) = omega (arith, digits-lt hs he, f .cells) in
-        List·getD-append (map (cellAt d) (d .table)) (endOf (d .shape)) 0 (s * events d + e) (rw length-map n)
-        ∙ getD-map (cellAt d) (d .table) (s * events d + e) n
+        List·getD-append (map (cellOf d) (d .table)) (endOf (d .shape)) 0 (s * events d + e) (rw length-map n)
+        ∙ getD-map (cellOf d) (d .table) (s * events d + e) n
 
     -- what is read back of it
     pub cell-next : getD (sheetOf d) (s * events d + e) 0 % 64 ≡ next d s e
     cell-next =
         let h = f .entries-in s e hs he in
-        let k = f .few-states in
+        let k = f .in-range .few-states in
         rw sheet-cell (omega arith)
 
     pub cell-operation : getD (sheetOf d) (s * events d + e) 0 / 64 ≡ markOf (operation d s e)
     cell-operation =
         let h = f .entries-in s e hs he in
-        let k = f .few-states in
+        let k = f .in-range .few-states in
         rw sheet-cell (omega arith)
 
   -- it opens, with the N, K and initial state of the drawing
@@ -102,16 +99,12 @@ module _ {d : Drawing} (f : Formed d) where
       let n : back (sheetOf d) 6 ≡ states d = at-end d 6 (omega arith) in
       let k : back (sheetOf d) 5 ≡ events d = at-end d 5 (omega arith) in
       let i : back (sheetOf d) 4 ≡ initial d = at-end d 4 (omega arith) in
-      let m = mul-le-mul (f .few-states) (f .few-events) in
+      let m = mul-le-mul (f .in-range .few-states) (f .in-range .few-events) in
       opened-when (sheetOf d) _ .1 (
         record {
           long = rw sheet-length (omega arith);
           marked = at-end d 3 (omega arith);
-          some-states = rw n (f .some-states);
-          few-states = rw n (f .few-states);
-          some-events = rw k (f .some-events);
-          few-events = rw k (f .few-events);
-          initial-in = rw (n, i) (f .initial-in);
+          in-range = rw (n, k, i) (f .in-range);
           distance = rw (n, k, low-byte d, high-byte d) (omega arith);
           size = rw (n, k) sheet-length;
         },

@@ -11,9 +11,10 @@ use Rattle.rule.specs.declared.Operation.the-variants.{Store, Dump}
 use Rattle.rule.specs.declared.Refusal.{Refusal}
 use Rattle.rule.specs.declared.Refusal.the-variants.{Sheet as NoSheet, Run as BadRun, Code, Cell, Memory, Room}
 use Rattle.sheet.specs.Given.{BadSheet}
-use Rattle.sheet.specs.Opening.{headIn}
+use Rattle.sheet.specs.Layout.{headIn}
 use Rattle.effects.specs.declared.Run.{Run}
-use Rattle.monitor.specs.Event.{operationOf, cellAt}
+use Rattle.sheet.specs.Layout.{operationOf}
+use Rattle.monitor.specs.Event.{cellAt}
 
 -- a fresh start gives 11
 abbrev pub freshOrder : List ℕ

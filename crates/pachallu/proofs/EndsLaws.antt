@@ -10,17 +10,14 @@ use Rattle.rule.specs.Refusals.{verdictTold}
 use Rattle.rule.specs.declared.Refusal.{Refusal}
 use Rattle.rule.specs.declared.Verdict.{Verdict}
 use Rattle.rule.specs.declared.Verdict.the-variants.{Sound, Refused as Unsound}
-use Rattle.rulefile.specs.Given.{putOrder}
-use Rattle.rulefile.specs.Writing.{writtenTold}
-use Rattle.rulefile.specs.declared.Written.{Written}
-use Rattle.rulefile.specs.declared.Written.the-variants.{Done, Refused as Unwritten}
+use Rattle.rule.specs.declared.Written.{Written}
+use Rattle.rule.specs.declared.Written.the-variants.{Done, Refused as Unwritten}
+use Rattle.rule.specs.Putting.{writtenTold}
 use Rattle.book.specs.Finding.{lookupOf, verdictBy}
-use Rattle.book.specs.Given.{Finding, findOrder, Adding, addOrder}
+use Rattle.book.specs.Given.{Finding, findOrder}
 use Rattle.book.specs.declared.Lookup.{Lookup}
 use Rattle.book.specs.declared.Lookup.the-variants.{Job, Office, Refused as NotFound}
-use Rattle.book.proofs.GivenLaws.{find-sound, find-gives, add-ends}
-use Rattle.making.specs.Given.{Making, makingOrder}
-use Rattle.making.proofs.GivenLaws.{make-ends}
+use Rattle.book.proofs.GivenLaws.{find-sound, find-gives}
 use Rattle.monitor.specs.Event.{EventPromise}
 use Rattle.monitor.specs.Fresh.{startOf}
 use Rattle.monitor.specs.Given.{FreshRow, freshOrder, EventRow, eventOrder}
@@ -30,31 +27,21 @@ use Rattle.effects.specs.Effects.{freshRun}
 use Rattle.effects.specs.declared.Run.{Run}
 use Rattle.effects.specs.declared.Answer.{Answer}
 use Rattle.effects.specs.declared.Answer.the-variants.{Taken, Refused}
-use Rattle.pachallu.specs.Told.{madeOf, PutForC, MakeForC, AddForC, foundOf, FindForC, startedOf, FreshForC, runOf, answeredOf, EventForC}
-use Rattle.pachallu.specs.Told.{madeTold, foundTold, startedTold, answeredTold, MakeKept, FindKept, FreshKept, EventKept}
+use Rattle.pachallu.specs.Told.{madeOf, PutForC, foundOf, FindForC, startedOf, FreshForC, runOf, answeredOf, EventForC}
+use Rattle.pachallu.specs.Told.{madeTold, foundTold, startedTold, answeredTold, PutKept, FindKept, FreshKept, EventKept}
 use Rattle.pachallu.specs.declared.Made.{Made}
 use Rattle.pachallu.specs.declared.Found.{Found}
 use Rattle.pachallu.specs.declared.Started.{Started}
 use Rattle.pachallu.specs.declared.Answered.{Answered}
 
--- a call that writes, as the call behind it
-put-ends : {T : Table} {order : List ℕ} {Promise : Written → List ℕ → Type 0} (out : List ℕ) {r : Made} {out′ : List ℕ}
-    → ((w : Written) → Promise w out′ → Ends T order (writtenTold w) (out′ ≡ out)) → PutForC Promise r out′ → Ends T order (madeTold r) (MakeKept out r out′)
-put-ends {T} {order} out {r} {out′} ends p = rw (p .told) (by (p .answer) (ends (p .answer) (p .promise)))
+-- a call that puts bytes into an output, by how the call behind it ends
+pub c-put-ends : {T : Table} {order : List ℕ} {Promise : Written → List ℕ → Type 0} {out : List ℕ} {r : Made} {out′ : List ℕ}
+    → ((w : Written) → Promise w out′ → Ends T order (writtenTold w) (out′ ≡ out)) → PutForC Promise r out′ → Ends T order (madeTold r) (PutKept out r out′)
+c-put-ends {T} {order} {Promise} {out} {r} {out′} ends p = rw (p .told) (by (p .answer) (ends (p .answer) (p .promise)))
   where
-    by : (w : Written) → Ends T order (writtenTold w) (out′ ≡ out) → Ends T order (madeTold (madeOf w)) (MakeKept out (madeOf w) out′)
+    by : (w : Written) → Ends T order (writtenTold w) (out′ ≡ out) → Ends T order (madeTold (madeOf w)) (PutKept out (madeOf w) out′)
     by (Done n) e = record { tells = e .tells; rest = λ n. absurd (n refl) }
     by (Unwritten x) e = record { tells = e .tells; rest = λ n. record { output-kept = e .rest n; written = refl } }
-
--- making a sheet
-pub c-make-ends : (rule out : List ℕ) {r : Made} {out′ : List ℕ} → MakeForC rule out r out′
-    → Ends (Making rule (length out)) makingOrder (madeTold r) (MakeKept out r out′)
-c-make-ends rule out p = put-ends out (λ w q. make-ends q) p
-
--- adding a rule to a book
-pub c-add-ends : (b : List ℕ) (number : ℕ) (rule out : List ℕ) {r : Made} {out′ : List ℕ} → AddForC b number rule out r out′
-    → Ends (Adding b number rule (length out)) (putOrder addOrder) (madeTold r) (MakeKept out r out′)
-c-add-ends b number rule out p = put-ends out (λ w q. add-ends b number rule out q) p
 
 -- looking a rule up
 pub c-find-ends : (job office : List ℕ) (number age : ℕ) {r : Found} → FindForC job office number age r

@@ -10,6 +10,12 @@ pachallu-make-one-answer κs a x y = (
   λ i. (tt, ((x .told .promise .output ∙ sym (y .told .promise .output)) i, tt)),
 )
 
+pub pachallu-print-one-answer : OneAnswer proofs.pachallu_print.ended proofs.pachallu_print.Reads.Learnt
+pachallu-print-one-answer κs a x y = (
+  x .told .told ∙ ap madeOf (x .told .promise .answer ∙ sym (y .told .promise .answer)) ∙ sym (y .told .told),
+  λ i. (tt, ((x .told .promise .output ∙ sym (y .told .promise .output)) i, tt)),
+)
+
 pub pachallu-add-one-answer : OneAnswer proofs.pachallu_add.ended proofs.pachallu_add.Reads.Learnt
 pachallu-add-one-answer κs a x y = (
   x .told .told ∙ ap madeOf (x .told .promise .answer ∙ sym (y .told .promise .answer)) ∙ sym (y .told .told),

@@ -10,8 +10,8 @@ use Rattle.rule.specs.declared.Operation.{Operation}
 use Rattle.rule.specs.declared.Refusal.{Refusal}
 use Rattle.rule.specs.declared.Told.{Told}
 use Rattle.rule.specs.declared.Verdict.the-variants.{Sound, Refused as Unsound}
-use Rattle.rulefile.specs.declared.Written.{Written}
-use Rattle.rulefile.specs.declared.Written.the-variants.{Done, Refused as Unwritten}
+use Rattle.rule.specs.declared.Written.{Written}
+use Rattle.rule.specs.declared.Written.the-variants.{Done, Refused as Unwritten}
 use Rattle.book.specs.Finding.{lookupOf}
 use Rattle.book.specs.declared.Lookup.{Lookup}
 use Rattle.book.specs.declared.Lookup.the-variants.{Job, Office, Refused as NotFound}
@@ -23,13 +23,13 @@ use Rattle.effects.specs.declared.Answer.{Answer}
 use Rattle.effects.specs.declared.Answer.the-variants.{Taken, Refused}
 use Rattle.pachallu.specs.Told.{madeOf, FindForC, FreshForC, EventForC, runOf}
 
--- a call that writes
-module _ {w : Written} where
-  pub made-done : {n : ℕ} → w ≡ Done n → record { refusal = 0; a = 0; b = 0; written = n } ≡ madeOf w
-  made-done q = rw q
+-- putting bytes
+pub made-done : {w : Written} {n : ℕ} → w ≡ Done n → record { refusal = 0; a = 0; b = 0; written = n } ≡ madeOf w
+made-done q = rw q
 
-  pub made-refused : {x : Refusal} {t : Told} → w ≡ Unwritten x → t ≡ toldOf x → record { refusal = t .number; a = t .a; b = t .b; written = 0 } ≡ madeOf w
-  made-refused q e = rw (q, e)
+pub made-refused : {w : Written} {x : Refusal} {t : Told} → w ≡ Unwritten x → t ≡ toldOf x
+    → record { refusal = t .number; a = t .a; b = t .b; written = 0 } ≡ madeOf w
+made-refused q e = rw (q, e)
 
 -- looking a rule up
 module _ (job office : List ℕ) (number age : ℕ) {r : Lookup} (is : r ≡ lookupOf job office number age) where

@@ -9,13 +9,14 @@ use Rattle.rule.specs.Refusals.{tell, toldOf}
 use Rattle.rule.specs.declared.Told.{Told}
 use Rattle.rule.specs.declared.Verdict.{Verdict}
 use Rattle.rule.specs.declared.Verdict.the-variants.{Sound, Refused as Unsound}
-use Rattle.rulefile.specs.declared.Written.{Written}
-use Rattle.rulefile.specs.declared.Written.the-variants.{Done, Refused as Unwritten}
+use Rattle.rule.specs.declared.Written.{Written}
+use Rattle.rule.specs.declared.Written.the-variants.{Done, Refused as Unwritten}
 use Rattle.book.specs.Finding.{lookupOf}
 use Rattle.book.specs.Adding.{AddPromise}
 use Rattle.book.specs.declared.Lookup.{Lookup}
 use Rattle.book.specs.declared.Lookup.the-variants.{Job, Office, Refused as NotFound}
 use Rattle.making.specs.Making.{MakePromise}
+use Rattle.printed.specs.Printing.{PrintPromise}
 use Rattle.monitor.specs.Fresh.{startOf}
 use Rattle.monitor.specs.Event.{EventPromise}
 use Rattle.effects.specs.declared.Run.{Run}
@@ -26,7 +27,7 @@ use Rattle.pachallu.specs.declared.Started.{Started}
 use Rattle.pachallu.specs.declared.Answered.{Answered}
 use Rattle.pachallu.specs.declared.Found.{Found}
 
--- a call that writes: 0 is "done"; a refused call has written nothing
+-- putting bytes into an output: 0 is "done"; a refused call has written nothing
 abbrev pub madeOf : Written → Made
 madeOf (Done n) = record { refusal = 0; a = 0; b = 0; written = n }
 madeOf (Unwritten r) = record { refusal = toldOf r .number; a = toldOf r .a; b = toldOf r .b; written = 0 }
@@ -36,13 +37,15 @@ pub record PutForC (Promise : Written → List ℕ → Type 0) (r : Made) (out�
   pub promise : Promise answer out′
   pub told : r ≡ madeOf answer
 
--- making a sheet
-abbrev pub MakeForC : (rule out : List ℕ) → Made → List ℕ → Type 0
-MakeForC rule out r out′ = PutForC (MakePromise rule out) r out′
+-- making a sheet, printing a monitor, adding a rule to a book
+abbrev pub MakeForC : List ℕ → List ℕ → Made → List ℕ → Type 0
+MakeForC rule sheet = PutForC (MakePromise rule sheet)
 
--- adding a rule to a book
+abbrev pub PrintForC : List ℕ → List ℕ → Made → List ℕ → Type 0
+PrintForC rule text = PutForC (PrintPromise rule text)
+
 abbrev pub AddForC : (b : List ℕ) (number : ℕ) (rule out : List ℕ) → Made → List ℕ → Type 0
-AddForC b number rule out r out′ = PutForC (AddPromise b number rule out) r out′
+AddForC b number rule out = PutForC (AddPromise b number rule out)
 
 -- looking a rule up: 0 is "found", in the job's book (0) or the office's (1); a refused one has 0 in every place
 abbrev pub foundOf : Lookup → Found
@@ -99,8 +102,9 @@ answeredTold r = tell (r .refusal) (r .a) (r .b)
 abbrev pub foundTold : Found → Told
 foundTold r = tell (r .refusal) (r .a) (r .b)
 
--- what a refused call leaves: the output as it was and nothing written; 0 for the book, the start and the length; state 0 with nothing held; the memory, the output and the run state as they were
-pub record MakeKept (out : List ℕ) (r : Made) (out′ : List ℕ) : Type 0 where
+-- what a refused call leaves: the output as it was and nothing written; 0 for the book, the start and the length; state 0 with nothing held;
+-- the memory, the output and the run state as they were
+pub record PutKept (out : List ℕ) (r : Made) (out′ : List ℕ) : Type 0 where
   pub output-kept : out′ ≡ out
   pub written : r .written ≡ 0
 

@@ -1,15 +1,15 @@
 // What C calls: numbers and byte slices. Each call is one of the house's, and its answer is told in numbers; include/pachallu.h declares them.
 ghost use mathlib.Core.Path.{_≡_};
-ghost use Rattle.pachallu.specs.Told.{madeOf, MakeForC, FreshForC, EventForC, FindForC, AddForC};
+ghost use Rattle.pachallu.specs.Told.{madeOf, MakeForC, PrintForC, FindForC, AddForC, FreshForC, EventForC};
 use book::Lookup;
 use effects::Answer;
 use effects::Run;
 use rule::EventNo;
 use rule::StateNo;
 use rule::Verdict;
-use rulefile::Written;
+use rule::Written;
 
-// What making a sheet, or adding to a book, came to. A refusal of 0 is "done".
+// What making a sheet, printing a monitor or adding to a book came to. A refusal of 0 is "done".
 #[repr(C)]
 pub struct Made {
     pub refusal: u8,
@@ -40,7 +40,7 @@ pub struct Answered {
     pub released: usize,
 }
 
-// What a rule was found to be: in the job's book (0) or the office's (1), its first byte and its length there.
+// Where a rule was found: in the job's book (0) or the office's (1), its first byte and its length there.
 #[repr(C)]
 pub struct Found {
     pub refusal: u8,
@@ -51,11 +51,11 @@ pub struct Found {
     pub length: usize,
 }
 
-// What a call that writes came to, in numbers.
-fn made_of(answer: Written) -> Made
-    ensures { λ r. ⌜ r ≡ madeOf answer ⌝ }
+// What came of putting bytes, told in numbers.
+fn made_of(written: Written) -> Made
+    ensures { λ r. ⌜ r ≡ madeOf written ⌝ }
 {
-    match answer {
+    match written {
         Written::Done(written) => Made {
             refusal: 0,
             a: 0,
@@ -80,6 +80,14 @@ pub extern "C" fn pachallu_make(rule: &[u8], sheet: &mut [u8]) -> Made
     ensures { λ r. ⌜ MakeForC (now (rule .entry)) (now (sheet .entry)) r (now (sheet .exit)) ⌝ }
 {
     made_of(making::make(rule, sheet))
+}
+
+// Prints the monitor of a rule file, or its refusal, at the front of `text`: refusal 16 where it does not fit.
+#[no_mangle]
+pub extern "C" fn pachallu_print(rule: &[u8], text: &mut [u8]) -> Made
+    ensures { λ r. ⌜ PrintForC (now (rule .entry)) (now (text .entry)) r (now (text .exit)) ⌝ }
+{
+    made_of(printed::print(rule, text))
 }
 
 // Starts a run: refusal 11, and then state 0 with nothing held.

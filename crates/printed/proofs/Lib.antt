@@ -3,10 +3,9 @@ pub mod TextLaws
 pub mod LineLaws
 pub mod LoopLaws
 pub mod StopLaws
-pub mod CellLaws
 pub mod MonitorLaws
 pub mod LengthLaws
 pub mod PrintLaws
+pub mod GivenLaws
 pub mod Example
-pub mod RefusedLaws
 pub mod OneAnswer

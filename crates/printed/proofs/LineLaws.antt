@@ -1,74 +1,46 @@
--- Laws of lines: how long they are, and what is put word by word.
+-- Laws of lines: what is put number by number.
 -- Assumes nothing.
-use Prim.Native.Nat.{ℕ, zero, suc}
-use mathlib.Core.Path.{_≡_, refl, sym}
-use mathlib.Core.List.{List, [], _∷_, _++_, map, append-assoc, append-nil}
-use native.Mathlib.Omega.{arith}
-use lib.ListN.{length, getD, length-append}
-use Rattle.rulefile.specs.Layout.{flatUpTo}
-use Rattle.printed.specs.Text.{decimal, spaced, line}
-use Rattle.printed.specs.Placing.{Room, lineSize, Put}
-use Rattle.printed.proofs.PlacingLaws.{then, first-room, rest-room}
+use Prim.Native.Nat.{ℕ}
+use mathlib.Core.Path.{_≡_}
+use mathlib.Core.List.{List, [], _∷_, _++_, append-assoc}
+use Rattle.rule.specs.declared.Operation.{Operation}
+use Rattle.rule.specs.declared.Shape.{Shape}
+use Rattle.rule.specs.declared.Told.{Told}
+use Rattle.printed.specs.Text.{decimal, rest, line}
+use Rattle.printed.specs.Placing.{Put}
+use Rattle.printed.specs.Printing.{ruleWord, refusedWord, header, cellLine, cellOf, refusalLine}
+use Rattle.printed.specs.Writers.{cellEnd}
+use Rattle.printed.proofs.PlacingLaws.{then}
 
-pub spaced-append : (vs ws : List (List ℕ)) → spaced (vs ++ ws) ≡ spaced vs ++ spaced ws
-unfolding spaced
-spaced-append [] ws = refl
-spaced-append (v ∷ vs) ws = rw (spaced-append vs ws) (sym (append-assoc (32 ∷ v) (spaced vs) (spaced ws)))
+-- two numbers, each after a space
+abbrev pub two : ℕ → ℕ → List ℕ
+two m n = 32 ∷ (decimal m ++ (32 ∷ decimal n))
 
-pub length-spaced : (ws : List (List ℕ)) → length (spaced ws) ≡ lineSize ws
-unfolding spaced
-length-spaced [] = refl
-length-spaced (w ∷ ws) = rw (length-append w (spaced ws), length-spaced ws) (omega arith)
+pub two-put : (m n : ℕ) {o o₁ o₂ : List ℕ} {a a₁ a₂ : ℕ} → Put o a (32 ∷ decimal m) a₁ o₁ → Put o₁ a₁ (32 ∷ decimal n) a₂ o₂ → Put o a (two m n) a₂ o₂
+two-put m n p q = then p q
 
--- a line takes its words, and a byte after each
-pub length-line : (first : List ℕ) (ws : List (List ℕ)) → length (line first ws) ≡ lineSize (first ∷ ws)
-unfolding line
-length-line first ws = rw (length-append, length-append, length-spaced) (omega arith)
+-- and more after them
+and-more : (m n : ℕ) {end o o₁ o₂ : List ℕ} {a a₁ a₂ : ℕ} → Put o a (two m n) a₁ o₁ → Put o₁ a₁ end a₂ o₂
+    → Put o a (32 ∷ (decimal m ++ (32 ∷ (decimal n ++ end)))) a₂ o₂
+and-more m n p q = rw (append-assoc (decimal m)) at (then p q)
 
--- numbers after spaces, one by one
-module _ (numbers : List ℕ) where
-  abbrev pub numberAt : ℕ → List ℕ
-  numberAt i = 32 ∷ decimal (getD numbers i 0)
+pub refusal-put : (t : Told) {o o₁ o₂ o₃ : List ℕ} {a a₁ a₂ a₃ : ℕ} → Put o a ((refusedWord ++ (32 ∷ [])) ++ decimal (t .number)) a₁ o₁
+    → Put o₁ a₁ (two (t .a) (t .b)) a₂ o₂ → Put o₂ a₂ (10 ∷ []) a₃ o₃ → Put o a (refusalLine t) a₃ o₃
+unfolding refusalLine line rest
+refusal-put t p q r = then p (and-more (t .a) (t .b) q r)
 
-flat-first : (f : ℕ → List ℕ) (n : ℕ) → flatUpTo f (suc n) ≡ f 0 ++ flatUpTo (λ i. f (suc i)) n
-unfolding flatUpTo
-flat-first f zero = sym (append-nil (f 0))
-flat-first f (suc n) = rw (flat-first f n) (append-assoc (f 0) (flatUpTo (λ i. f (suc i)) n) (f (suc n)))
+pub header-put : (h : Shape) {o o₁ o₂ o₃ o₄ : List ℕ} {a a₁ a₂ a₃ a₄ : ℕ} → Put o a ((ruleWord ++ (32 ∷ [])) ++ decimal (h .class)) a₁ o₁
+    → Put o₁ a₁ (two (h .states) (h .events)) a₂ o₂ → Put o₂ a₂ (two (h .pairs) (h .initial .0)) a₃ o₃ → Put o₃ a₃ (10 ∷ []) a₄ o₄ → Put o a (header h) a₄ o₄
+unfolding header line rest
+header-put h p q r s = then p (and-more (h .states) (h .events) q (and-more (h .pairs) (h .initial .0) r s))
 
-flat-nothing : (f : ℕ → List ℕ) → flatUpTo f 0 ≡ []
-unfolding flatUpTo
-flat-nothing f = refl
+-- a cell whose next state and operation were looked up
+pub cell-put : (next : ℕ → ℕ → ℕ) (operation : ℕ → Operation) (s e : ℕ) {t : ℕ} {x : Operation} → t ≡ next s e → x ≡ operation t
+    → {o o₁ o₂ o₃ : List ℕ} {a a₁ a₂ a₃ : ℕ} → Put o a (decimal s) a₁ o₁ → Put o₁ a₁ (two e t) a₂ o₂ → Put o₂ a₂ (cellEnd x) a₃ o₃
+    → Put o a (cellOf next operation s e) a₃ o₃
+unfolding cellOf cellLine line rest
+cell-put next operation s e {t} i j p q r = rw (← i, ← j) (then p (and-more e t q r))
 
-pub numbers-flat : (numbers : List ℕ) → spaced (map decimal numbers) ≡ flatUpTo (numberAt numbers) (length numbers)
-unfolding spaced
-numbers-flat [] = sym (flat-nothing (numberAt []))
-numbers-flat (n ∷ numbers) = rw (flat-first (numberAt (n ∷ numbers)) (length numbers), numbers-flat numbers)
-
--- a line part by part: there is room for each, and together they are the line
-module _ (first : List ℕ) (words : List (List ℕ)) (out : List ℕ) (at : ℕ) (room : Room out at (line first words)) where
-  pub word-room : Room out at first
-  unfolding line
-  word-room = first-room first _ out at room
-
-  module _ {out₁ : List ℕ} {at₁ : ℕ} (p : Put out at first at₁ out₁) where
-    after-room : Room out₁ at₁ (spaced words ++ (10 ∷ []))
-    unfolding line
-    after-room = rest-room first _ p room
-
-    pub words-room : Room out₁ at₁ (spaced words)
-    words-room = first-room (spaced words) (10 ∷ []) out₁ at₁ after-room
-
-    module _ {out₂ : List ℕ} {at₂ : ℕ} (q : Put out₁ at₁ (spaced words) at₂ out₂) where
-      pub end-room : Room out₂ at₂ (10 ∷ [])
-      end-room = rest-room (spaced words) (10 ∷ []) q after-room
-
-      pub line-put : {out₃ : List ℕ} {at₃ : ℕ} → Put out₂ at₂ (10 ∷ []) at₃ out₃ → Put out at (line first words) at₃ out₃
-      unfolding line
-      line-put r = then p (then q r)
-
--- a line of a first word and three more, the last put with the line's end
-pub line-of-four : (a b c : List ℕ) {out first out₁ out₂ out₃ out₄ : List ℕ} {at at₁ at₂ at₃ at₄ : ℕ}
-    → Put out at first at₁ out₁ → Put out₁ at₁ (32 ∷ a) at₂ out₂ → Put out₂ at₂ (32 ∷ b) at₃ out₃ → Put out₃ at₃ (32 ∷ (c ++ (10 ∷ []))) at₄ out₄
-    → Put out at (line first (a ∷ b ∷ c ∷ [])) at₄ out₄
-unfolding line spaced
-line-of-four a b c p q r s = rw (append-nil, append-assoc a, append-assoc b) (then p (then q (then r s)))
+-- the end of a cell
+pub end-put : {x y : Operation} {o o′ : List ℕ} {a a′ : ℕ} → x ≡ y → Put o a (cellEnd y) a′ o′ → Put o a (cellEnd x) a′ o′
+end-put e p = rw e p

@@ -1,148 +1,108 @@
--- What printing comes to: nothing for want of room, a refusal's line, or the monitor.
+-- What printing comes to: a refusal's line or the monitor, measured, and put where it fits.
 -- Assumes nothing.
-use Prim.Native.Nat.{ℕ, _+_, _-_, _≤_, _<_}
-use mathlib.Core.Path.{_≡_, refl, sym, ap, _∙_}
-use mathlib.Core.List.{List, []}
-use native.Mathlib.Decide.{decLe}
+use Prim.Native.Nat.{ℕ, _-_, _≤_, _<_}
+use mathlib.Core.Path.{_≡_, refl, sym, _∙_}
+use mathlib.Core.List.{List, [], _++_}
 use native.Mathlib.Omega.{arith}
-use borrow.Author.Tests.{le-leb, lt-leb}
 use lib.ListN.{length, take, drop}
-use Rattle.rule.specs.Drawing.{Drawing, body}
-use Rattle.rule.specs.Operations.{reachOf, operationAt}
+use Rattle.rule.specs.Drawing.{body}
+use Rattle.rule.specs.Operations.{reachOf, operationAt, operationsOf}
+use Rattle.rule.specs.Reach.{target}
 use Rattle.rule.specs.Refusals.{toldOf}
-use Rattle.rule.specs.Stopping.{stopping}
-use Rattle.rule.specs.WellDrawn.{WellDrawn, InRange}
+use Rattle.rule.specs.declared.Operation.{Operation}
 use Rattle.rule.specs.declared.Refusal.{Refusal}
-use Rattle.rule.specs.declared.Refusal.the-variants.{Room as NoRoom}
+use Rattle.rule.specs.declared.Refusal.the-variants.{Room}
 use Rattle.rule.specs.declared.Shape.{Shape}
 use Rattle.rule.specs.declared.Told.{Told}
+use Rattle.rule.specs.declared.Verdict.{Verdict}
 use Rattle.rule.specs.declared.Verdict.the-variants.{Sound, Refused as Unsound}
-use Rattle.rule.proofs.ClassLaws.{well-drawn}
 use Rattle.rule.proofs.RefusalLaws.{sound-or}
 use Rattle.rulefile.specs.Layout.{drawingIn}
 use Rattle.rulefile.specs.Reading.{verdictOn, partsOf}
 use Rattle.rulefile.specs.declared.Contents.{Contents}
-use Rattle.rulefile.specs.declared.Written.{Written}
-use Rattle.rulefile.specs.declared.Written.the-variants.{Done, Refused}
-use Rattle.rulefile.proofs.PartsLaws.{SoundFile, sound-file, shape-drawn, pairs-drawn, SoundParts, sound-parts, parts-verdict}
-use Rattle.printed.specs.Placing.{Room, pasted, Put}
-use Rattle.printed.specs.Printing.{refusalLine, monitorText, textOf, PrintPromise}
+use Rattle.rule.specs.declared.Written.the-variants.{Done, Refused}
+use Rattle.rulefile.proofs.PartsLaws.{sound-file, sound-parts, parts-verdict, table-order, table-inside}
+use Rattle.rule.proofs.PutLaws.{keeps-no-room, keeps-done}
+use Rattle.rulefile.proofs.WellLaws.{file-well, file-shaped}
+use Rattle.printed.specs.Placing.{Put}
+use Rattle.printed.specs.Printing.{header, cellLines, stopLine, refusalLine, monitorText, textMax, textOf, PrintPromise}
+use Rattle.printed.specs.Writers.{into, haltsInto, textFrom}
+use Rattle.printed.proofs.PlacingLaws.{then, put-size, put-all, put-none}
+use Rattle.printed.proofs.MonitorLaws.{monitor-is}
 use Rattle.printed.proofs.LengthLaws.{refusal-short, monitor-short}
-
--- ---- a sound file's drawing
-
-in-range : (f : List ℕ) → SoundFile f → InRange (drawingIn f)
-in-range f s =
-    let r = s .ranged in
-    let e = shape-drawn f s in
-    rw e
-    (record {
-      class-in = (s .classed .low, s .classed .high);
-      states-in = (r .some-states, r .states-in);
-      events-in = (r .some-events, r .events-in);
-      pairs-in = (r .some-pairs, r .pairs-in);
-      initial-in = r .initial-in;
-      one-pair = r .one-pair;
-    })
-
-well-in : (f : List ℕ) → SoundFile f → WellDrawn (drawingIn f)
-well-in f s = well-drawn (drawingIn f) (pairs-drawn f s ∙ sym (ap (λ (h : Shape). h .pairs) (shape-drawn f s))) (in-range f s) (s .sound)
-
--- ---- the note is no part of the monitor
-
-abbrev bare : Drawing → Drawing
-bare d = record { shape = d .shape; note = []; table = d .table; pairs = d .pairs }
-
-well-bare : {d : Drawing} → WellDrawn d → WellDrawn (bare d)
-well-bare w =
-    record {
-      few-states = w .few-states;
-      initial-in = w .initial-in;
-      closed = w .closed;
-      whole = w .whole;
-      R-in = w .R-in;
-      P-in = w .P-in;
-      none-into = w .none-into;
-    }
-
-monitor-bare : (d : Drawing) → monitorText (bare d) ≡ monitorText d
-unfolding monitorText operationAt stopping reachOf
-monitor-bare d = refl
 
 -- ---- what is printed of a file
 
-text-sound : (f : List ℕ) → verdictOn f ≡ Sound → textOf f ≡ monitorText (drawingIn f)
-unfolding textOf
-text-sound f v = rw v
+module _ (f : List ℕ) where
+  text-sound : verdictOn f ≡ Sound → textOf f ≡ monitorText (drawingIn f)
+  unfolding textOf
+  text-sound v = rw v
 
-text-refused : (f : List ℕ) {r : Refusal} → verdictOn f ≡ Unsound r → textOf f ≡ refusalLine (toldOf r)
-unfolding textOf
-text-refused f v = rw v
+  text-refused : {r : Refusal} → verdictOn f ≡ Unsound r → textOf f ≡ refusalLine (toldOf r)
+  unfolding textOf
+  text-refused v = rw v
 
--- it is 32,768 bytes at most
-pub text-short : (f : List ℕ) → length (textOf f) ≤ 32768
-text-short f =
-    sound-or (verdictOn f)
-    (λ v.
-    let s = sound-file f v in
-    rw (text-sound f v) (monitor-short (drawingIn f) (well-in f s) (rw (shape-drawn f s) (s .ranged .events-in))))
-    (λ r v. rw (text-refused f v) (omega (arith, refusal-short (toldOf r))))
+  -- it is 32,768 bytes at most
+  pub text-short : length (textOf f) ≤ textMax
+  text-short =
+      sound-or (verdictOn f)
+      (λ v. let s = sound-file f v in rw (text-sound v) (monitor-short (drawingIn f) (file-well f s) (file-shaped f s .ranged .numbers .few-events)))
+      (λ r v. rw (text-refused v) (omega (arith, refusal-short (toldOf r))))
 
--- ---- the text, for each way through the code
+  -- it is the text of what was found of the file, and of the operations
+  module _ {p : Contents} (is : p ≡ partsOf f) {l : List Operation}
+      (found : l ≡ operationsOf (body (p .shape) (take (p .end - p .start) (drop (p .start) f)) (p .pairs))) where
+    same : verdictOn f ≡ Sound → l ≡ operationsOf (drawingIn f)
+    unfolding operationAt reachOf
+    same v = let s = sound-parts f is (parts-verdict f is ∙ v) in found ∙ rw (s .table-is, s .pairs-is, s .drawn)
 
--- a refusal
-pub refusal-room : (out : List ℕ) (t : Told) → 32768 ≤ length out → Room out 0 (refusalLine t)
-refusal-room out t h = omega (arith, refusal-short t)
+    abbrev text : List ℕ
+    text = textFrom (p .verdict) (p .shape) (take (p .end - p .start) (drop (p .start) f)) l
 
-module _ (f : List ℕ) {c : Contents} (is : c ≡ partsOf f) where
-  pub refusal-put : {out out′ : List ℕ} {r : Refusal} {t : Told} {next : ℕ} → c .verdict ≡ Unsound r → t ≡ toldOf r
-      → Put out 0 (refusalLine t) next out′ → Put out 0 (textOf f) next out′
-  refusal-put v e p = rw (text-refused f (sym (parts-verdict f is) ∙ v), ← e) p
+    pub text-found : text ≡ textOf f
+    text-found =
+        sound-or (verdictOn f)
+        (λ v.
+        let s = sound-parts f is (parts-verdict f is ∙ v) in
+        rw (parts-verdict f is, v, s .table-is, s .drawn) (monitor-is (file-well f (sound-file f v)) (same v) ∙ sym (text-sound v)))
+        (λ r v. rw (parts-verdict f is, v) (sym (text-refused v)))
 
-  -- the monitor
-  module _ (v : c .verdict ≡ Sound) where
-    sound : verdictOn f ≡ Sound
-    sound = sym (parts-verdict f is) ∙ v
+    -- measured in no bytes, and then refused or put
+    module _ (out : List ℕ) {part : List ℕ} {size : ℕ} (m : Put [] 0 text size part) where
+      size-is : size ≡ length (textOf f)
+      size-is = put-size m (rw text-found (omega (arith, text-short))) ∙ rw text-found
 
-    has : SoundParts f c
-    has = sound-parts f is v
+      nothing : part ≡ []
+      nothing = put-none m refl
 
-    abbrev drawing : Drawing
-    drawing = body (c .shape) (take (c .end - c .start) (drop (c .start) f)) (c .pairs)
+      pub print-no-room : length (part ++ out) < size → PrintPromise f out (Refused Room) (part ++ out)
+      print-no-room h = rw nothing (keeps-no-room refl (rw (nothing, size-is) at h))
 
-    drawing-is : drawing ≡ bare (drawingIn f)
-    drawing-is = rw (has .table-is, has .pairs-is, has .drawn)
+      pub print-put : {n : ℕ} {out′ : List ℕ} → size ≤ length (part ++ out) → Put (part ++ out) 0 text n out′ → PrintPromise f out (Done n) out′
+      print-put h q =
+          let fits : length (textOf f) ≤ length out = rw (nothing, size-is) at h in
+          let put = rw (nothing, text-found) at q in
+          let n-is = put-size put (omega (arith, text-short)) in
+          keeps-done refl n-is (rw n-is fits) (rw n-is (put-all put fits))
 
-    text-is : textOf f ≡ monitorText drawing
-    text-is = text-sound f sound ∙ rw drawing-is (sym (monitor-bare (drawingIn f)))
+  -- its table lies in the file
+  module _ {p : Contents} (is : p ≡ partsOf f) where
+    pub table-starts : p .start ≤ p .end
+    unfolding partsOf
+    table-starts = sound-or (p .verdict) (table-order f is) (λ r v. rw (is, sym (parts-verdict f is) ∙ v) (omega arith))
 
-    pub monitor-well : WellDrawn drawing
-    monitor-well = rw drawing-is (well-bare (well-in f (sound-file f sound)))
+    pub table-ends : p .end ≤ length f
+    unfolding partsOf
+    table-ends = sound-or (p .verdict) (table-inside f is) (λ r v. rw (is, sym (parts-verdict f is) ∙ v) (omega arith))
 
-    pub monitor-room : (out : List ℕ) → 32768 ≤ length out → Room out 0 (monitorText drawing)
-    monitor-room out h = rw (← text-is) (omega (arith, text-short f))
+-- ---- what was found of a file, part by part
 
-    pub monitor-put : {out out′ : List ℕ} {next : ℕ} → Put out 0 (monitorText drawing) next out′ → Put out 0 (textOf f) next out′
-    monitor-put p = rw text-is p
+module _ {v : Verdict} (s : Shape) (table : List ℕ) (l : List Operation) {out : List ℕ} {at : ℕ} where
+  pub refused-put : {r : Refusal} {t : Told} {out′ : List ℕ} {next : ℕ} → v ≡ Unsound r → t ≡ toldOf r → Put out at (refusalLine t) next out′
+      → Put out at (textFrom v s table l) next out′
+  refused-put e q p = rw (e, ← q) p
 
--- ---- the promise
-
-pub no-room : (f out : List ℕ) → length out < 32768 → PrintPromise f out (Refused NoRoom) out
-no-room f out h = record { answer = rw (lt-leb 32768 (length out) h); output = rw (lt-leb 32768 (length out) h) }
-
--- the text is put from the front on
-pub all-put : (f out : List ℕ) {next : ℕ} {out′ : List ℕ} → 32768 ≤ length out → Put out 0 (textOf f) next out′ → PrintPromise f out (Done next) out′
-unfolding pasted
-all-put f out h p =
-    let z : 0 + length (textOf f) ≡ length (textOf f) = omega arith in
-    record { answer = rw (le-leb 32768 (length out) h) (ap Done (p .place ∙ z)); output = rw (le-leb 32768 (length out) h) (rw z at (p .output)) }
-
--- what was put lies within the output
-pub done-fits : {f out : List ℕ} {w : Written} {size : ℕ} {out′ : List ℕ} → PrintPromise f out w out′ → w ≡ Done size → size ≤ length out
-done-fits {f} {out} {w} {size} p e =
-    elim (decLe 32768 (length out)) [
-      | yes h ↦
-          let n : size ≡ length (textOf f) = cc (rw (le-leb 32768 (length out) h) at (p .answer)) in
-          omega (arith, text-short f)
-      | no h ↦ absurd (let z : _≡_ {A = ℕ} 0 1 = cc (rw (lt-leb 32768 (length out) (omega arith)) at (p .answer)) in omega arith)
-    ]
+  pub sound-put : {out₁ out₂ out₃ : List ℕ} {at₁ at₂ at₃ : ℕ} → v ≡ Sound → Put out at (header s) at₁ out₁
+      → Put out₁ at₁ (cellLines (target table (s .events)) (into l) (s .events) (s .states)) at₂ out₂
+      → Put out₂ at₂ (stopLine (haltsInto l) (s .states)) at₃ out₃ → Put out at (textFrom v s table l) at₃ out₃
+  sound-put e p q r = rw e (then p (then q r))

@@ -1,95 +1,88 @@
 -- Laws of the stopping states' line.
 -- Assumes nothing.
-use Prim.Native.Nat.{ℕ, zero, suc, _+_, _≤_, _<_}
-use mathlib.Core.Path.{_≡_, refl, ap}
-use mathlib.Core.Bool.{Bool, false}
-use mathlib.Core.List.{List, [], _∷_, _++_, append-nil}
+use Prim.Native.Nat.{ℕ, zero, suc, _≤_, _<_}
+use mathlib.Core.Path.{_≡_, refl, sym, ap, _∙_}
+use mathlib.Core.Bool.{Bool, true, false, cond}
+use mathlib.Core.List.{List, [], _∷_, _++_, append-assoc, append-nil}
 use native.Mathlib.Omega.{arith}
 use native.Mathlib.Decide.{ℕ-discrete}
-use lib.ListN.{length, length-append}
+use lib.ListN.{length, getD, length-append, List·getD-eq-default}
 use Rattle.rule.specs.declared.Operation.{Operation}
 use Rattle.rule.specs.declared.Operation.the-variants.{Halt}
 use Rattle.rulefile.specs.Layout.{flatUpTo}
-use Rattle.printed.specs.Text.{decimal, spaced, line}
-use Rattle.printed.specs.Placing.{Room, Put}
-use Rattle.printed.specs.Printing.{thoseBelow, orNone, stopLine, stopWord, noneWord}
-use Rattle.printed.specs.Writers.{stopAt, halts, stopIf}
-use Rattle.printed.proofs.PlacingLaws.{then, put-length}
-use Rattle.printed.proofs.LineLaws.{spaced-append}
+use Rattle.printed.specs.Text.{decimal, rest, line}
+use Rattle.printed.specs.Placing.{lastPlace, Put}
+use Rattle.printed.specs.Printing.{thoseBelow, orNone, stopLine, stopWord}
+use Rattle.printed.specs.Writers.{halts, into, haltsInto, stopAt}
+use Rattle.printed.proofs.PlacingLaws.{then, put-nothing, put-last}
+
+-- the operation at a place of the array, and halt past it
+module _ (operations : List Operation) (t : ℕ) where
+  pub into-array : getD operations t Halt ≡ into operations t
+  unfolding into
+  into-array = refl
+
+  pub into-past : length operations ≡ 64 → 64 ≤ t → Halt ≡ into operations t
+  unfolding into
+  into-past n h = sym (List·getD-eq-default operations Halt (omega arith))
 
 -- what is put of one state
-module _ (q : ℕ) (o : Operation) where
-  pub stop-halt : o ≡ Halt → stopIf (halts o) q ≡ 32 ∷ decimal q
-  unfolding spaced
-  stop-halt e = rw (e, append-nil)
+module _ (operations : List Operation) (q : ℕ) {o : Operation} (is : o ≡ into operations q) {out : List ℕ} {at : ℕ} where
+  pub stop-put : {out′ : List ℕ} {next : ℕ} → o ≡ Halt → Put out at (32 ∷ decimal q) next out′ → Put out at (stopAt (haltsInto operations) q) next out′
+  unfolding stopAt haltsInto
+  stop-put e p = rw (← is, e) p
 
-  pub stop-not : {o′ : Operation} → o ≡ o′ → halts o′ ≡ false → stopIf (halts o) q ≡ []
-  unfolding spaced
-  stop-not e f = rw (e, f)
+  pub stop-not : {x : Operation} → o ≡ x → halts x ≡ false → length out ≤ lastPlace → at ≤ lastPlace → Put out at (stopAt (haltsInto operations) q) at out
+  unfolding stopAt haltsInto
+  stop-not e n s h = rw (← is, e, n) (put-nothing out at s h)
 
--- the states that are put one by one are the line's words
-pub those-flat : (has : ℕ → Bool) (n : ℕ) → spaced (thoseBelow has n) ≡ flatUpTo (stopAt has) n
-unfolding thoseBelow flatUpTo spaced
-those-flat has zero = refl
-those-flat has (suc n) = rw (spaced-append, those-flat has n)
-
--- no state, or some
-by-words : {B : Type 0} (ws : List (List ℕ)) → (spaced ws ≡ [] → orNone ws ≡ noneWord ∷ [] → B) → (0 < length (spaced ws) → orNone ws ≡ ws → B) → B
-unfolding spaced
-by-words [] none some = none refl refl
-by-words (w ∷ ws) none some = some (omega arith) refl
+-- no word, or some, by what is put of them before the line's end
+by-words : (ws : List (List ℕ)) (l : List ℕ) → rest ws ≡ l ++ (10 ∷ [])
+    → (length l ≡ 0 → rest (orNone ws) ≡ l ++ (32 ∷ 45 ∷ 10 ∷ [])) × (0 < length l → rest (orNone ws) ≡ l ++ (10 ∷ []))
+unfolding rest
+by-words [] [] e = (λ z. refl, λ h. absurd (omega arith))
+by-words [] (x ∷ l) e =
+    let q : _≡_ {A = List ℕ} [] (l ++ (10 ∷ [])) = cc in
+    absurd (omega (arith, ap length q, length-append l (10 ∷ [])))
+by-words (w ∷ ws) [] e = absurd (let z : _≡_ {A = ℕ} 32 10 = cc in omega arith)
+by-words (w ∷ ws) (x ∷ l) e = (λ z. absurd (omega arith), λ h. e)
 
 module _ (has : ℕ → Bool) (n : ℕ) where
-  abbrev stops : List ℕ
+  abbrev pub stops : List ℕ
   stops = flatUpTo (stopAt has) n
 
-  -- the line where no state is put, and where some are
-  line-none : length stops ≡ 0 → stopLine has n ≡ stopWord ++ (stops ++ (32 ∷ 45 ∷ 10 ∷ []))
-  unfolding stopLine line spaced
-  line-none z =
-      let f = those-flat has n in
-      by-words (thoseBelow has n)
-      (λ e o. rw (o, ← f, e))
-      (λ l o. absurd (omega (arith, ap length f)))
+those-rest : (has : ℕ → Bool) (n : ℕ) (ws : List (List ℕ)) → rest (thoseBelow has n ++ ws) ≡ stops has n ++ rest ws
+unfolding thoseBelow flatUpTo rest stopAt
+those-rest has zero ws = refl
+those-rest has (suc n) ws =
+    rw (append-assoc (thoseBelow has n))
+    (those-rest has n (cond (has n) (decimal n ∷ []) [] ++ ws) ∙ rw (by (has n)) (sym (append-assoc (stops has n) (stopAt has n) (rest ws))))
+  where
+    by : (b : Bool) → rest (cond b (decimal n ∷ []) [] ++ ws) ≡ cond b (32 ∷ decimal n) [] ++ rest ws
+    by true = refl
+    by false = refl
 
-  line-some : 0 < length stops → stopLine has n ≡ stopWord ++ (stops ++ (10 ∷ []))
+module _ (has : ℕ → Bool) (n : ℕ) where
+  words : rest (thoseBelow has n) ≡ stops has n ++ (10 ∷ [])
+  unfolding rest
+  words = rw append-nil at (those-rest has n [])
+
+  pub stop-none : length (stops has n) ≡ 0 → stopLine has n ≡ stopWord ++ (stops has n ++ (32 ∷ 45 ∷ 10 ∷ []))
   unfolding stopLine line
-  line-some h =
-      let f = those-flat has n in
-      by-words (thoseBelow has n)
-      (λ e o. absurd (omega (arith, ap length f, ap length e)))
-      (λ l o. rw (o, f))
+  stop-none z = rw (by-words (thoseBelow has n) (stops has n) words .0 z)
 
-  length-none : length stops ≡ 0 → length (stopLine has n) ≡ 7
-  length-none z = rw (line-none z) (simp length-append (omega arith))
+  pub stop-some : 0 < length (stops has n) → stopLine has n ≡ stopWord ++ (stops has n ++ (10 ∷ []))
+  unfolding stopLine line
+  stop-some h = rw (by-words (thoseBelow has n) (stops has n) words .1 h)
 
-  length-some : 0 < length stops → length (stopLine has n) ≡ 5 + length stops
-  length-some h = rw (line-some h) (simp length-append (omega arith))
+  -- the line part by part: where no state was put, it has `-`
+  module _ {out out₁ out₂ out₃ : List ℕ} {at at₁ at₂ at₃ : ℕ} (p : Put out at stopWord at₁ out₁) (q : Put out₁ at₁ (stops has n) at₂ out₂) where
+    pub none-put : at₂ ≡ at₁ → Put out₂ at₂ (32 ∷ 45 ∷ 10 ∷ []) at₃ out₃ → Put out at (stopLine has n) at₃ out₃
+    none-put e r =
+        elim (ℕ-discrete (length (stops has n)) 0) [
+          | yes z ↦ rw (stop-none z) (then p (then q r))
+          | no d ↦ rw (stop-some (omega arith)) (then p (put-last (stops has n ++ (10 ∷ [])) (omega (arith, p .place, q .place)) (then q r)))
+        ]
 
-  pub stop-length : (5 + length stops ≤ length (stopLine has n)) × (length (stopLine has n) ≤ 7 + length stops)
-  stop-length =
-      elim (ℕ-discrete (length stops) 0) [
-        | yes z ↦ omega (arith, length-none z)
-        | no d ↦ omega (arith, length-some (omega arith))
-      ]
-
-  -- part by part: there is room for each, and together they are the line
-  pub word-room : (out : List ℕ) (at : ℕ) → Room out at (stopLine has n) → Room out at stopWord
-  word-room out at room = omega (arith, stop-length)
-
-  module _ {out out₁ : List ℕ} {at at₁ : ℕ} (p : Put out at stopWord at₁ out₁) where
-    pub stops-room : Room out at (stopLine has n) → Room out₁ at₁ stops
-    stops-room room = omega (arith, stop-length, put-length p, p .place)
-
-    module _ {out₂ : List ℕ} {at₂ : ℕ} (q : Put out₁ at₁ stops at₂ out₂) where
-      pub none-room : Room out at (stopLine has n) → at₂ ≡ at₁ → Room out₂ at₂ (32 ∷ 45 ∷ 10 ∷ [])
-      none-room room e = omega (arith, length-none (omega (arith, q .place)), put-length p, p .place, put-length q, q .place)
-
-      pub some-room : Room out at (stopLine has n) → Room out₂ at₂ (10 ∷ [])
-      some-room room = omega (arith, stop-length, put-length p, p .place, put-length q, q .place)
-
-      pub none-put : {out₃ : List ℕ} {at₃ : ℕ} → at₂ ≡ at₁ → Put out₂ at₂ (32 ∷ 45 ∷ 10 ∷ []) at₃ out₃ → Put out at (stopLine has n) at₃ out₃
-      none-put e r = rw (line-none (omega (arith, q .place))) (then p (then q r))
-
-      pub some-put : {out₃ : List ℕ} {at₃ : ℕ} → (at₂ ≡ at₁ → ⊥) → Put out₂ at₂ (10 ∷ []) at₃ out₃ → Put out at (stopLine has n) at₃ out₃
-      some-put d r = rw (line-some (omega (arith, q .place))) (then p (then q r))
+    pub some-put : (at₂ ≡ at₁ → ⊥) → Put out₂ at₂ (10 ∷ []) at₃ out₃ → Put out at (stopLine has n) at₃ out₃
+    some-put d r = rw (stop-some (omega (arith, p .place, q .place))) (then p (then q r))

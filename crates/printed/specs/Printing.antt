@@ -1,28 +1,26 @@
 -- The printed monitor of a rule file.
 -- Assumes nothing.
 use Prim.Native.Nat.{ℕ, zero, suc}
-use mathlib.Core.Path.{_≡_}
 use mathlib.Core.Bool.{Bool, cond}
 use mathlib.Core.List.{List, [], _∷_, _++_}
 use lib.ListN.{length}
-use lib.Dec.{leb}
 use Rattle.rule.specs.Drawing.{Drawing, states, events, next}
 use Rattle.rule.specs.Operations.{operationAt}
 use Rattle.rule.specs.Stopping.{stopping}
 use Rattle.rule.specs.Refusals.{toldOf}
 use Rattle.rule.specs.declared.Operation.{Operation}
 use Rattle.rule.specs.declared.Operation.the-variants.{Halt, Store, Dump}
-use Rattle.rule.specs.declared.Refusal.the-variants.{Room}
 use Rattle.rule.specs.declared.Shape.{Shape}
 use Rattle.rule.specs.declared.Told.{Told}
 use Rattle.rule.specs.declared.Verdict.{Verdict}
 use Rattle.rule.specs.declared.Verdict.the-variants.{Sound, Refused as Unsound}
 use Rattle.rulefile.specs.Layout.{drawingIn, flatUpTo}
 use Rattle.rulefile.specs.Reading.{verdictOn}
-use Rattle.rulefile.specs.Writing.{outputBy}
-use Rattle.rulefile.specs.declared.Written.{Written}
-use Rattle.rulefile.specs.declared.Written.the-variants.{Done, Refused}
+use Rattle.rule.specs.Putting.{PutPromise}
+use Rattle.rule.specs.declared.Written.{Written}
 use Rattle.printed.specs.Text.{decimal, line}
+use Rattle.rule.specs.Given.{Table, NoRows}
+use Rattle.rule.specs.Putting.{Put as Puts, putOrder}
 
 -- the words rule, stop, refused, -
 abbrev pub ruleWord : List ℕ
@@ -44,22 +42,20 @@ operationWord Store = 115 ∷ 116 ∷ 111 ∷ 114 ∷ 101 ∷ []
 operationWord Dump = 100 ∷ 117 ∷ 109 ∷ 112 ∷ []
 
 -- header: class, N, K, m, initial state
-abbrev pub headerWords : Shape → List (List ℕ)
-headerWords s = decimal (s .class) ∷ decimal (s .states) ∷ decimal (s .events) ∷ decimal (s .pairs) ∷ decimal (s .initial .0) ∷ []
-
 unfoldable pub header : Shape → List ℕ
-header s = line ruleWord (headerWords s)
+header s = line ruleWord (decimal (s .class) ∷ decimal (s .states) ∷ decimal (s .events) ∷ decimal (s .pairs) ∷ decimal (s .initial .0) ∷ [])
 
 -- a cell: state, event, next state, operation
-abbrev pub moveWords : ℕ → ℕ → Operation → List (List ℕ)
-moveWords e t operation = decimal e ∷ decimal t ∷ operationWord operation ∷ []
-
 unfoldable pub cellLine : ℕ → ℕ → ℕ → Operation → List ℕ
-cellLine s e t operation = line (decimal s) (moveWords e t operation)
+cellLine s e t operation = line (decimal s) (decimal e ∷ decimal t ∷ operationWord operation ∷ [])
+
+-- the cell of state s at event e
+unfoldable pub cellOf : (ℕ → ℕ → ℕ) → (ℕ → Operation) → ℕ → ℕ → List ℕ
+cellOf next operation s e = cellLine s e (next s e) (operation (next s e))
 
 -- the cells of state s at the k events
 unfoldable pub rowLines : (ℕ → ℕ → ℕ) → (ℕ → Operation) → ℕ → ℕ → List ℕ
-rowLines next operation k s = flatUpTo (λ e. cellLine s e (next s e) (operation (next s e))) k
+rowLines next operation k s = flatUpTo (cellOf next operation s) k
 
 -- the cells of the n states, row by row
 unfoldable pub cellLines : (ℕ → ℕ → ℕ) → (ℕ → Operation) → ℕ → ℕ → List ℕ
@@ -85,11 +81,8 @@ monitorText d =
     header (d .shape) ++ (cellLines (next d) (operationAt d) (events d) (states d) ++ stopLine (stopping d) (states d))
 
 -- a refusal: only its number and places
-abbrev pub refusalWords : Told → List (List ℕ)
-refusalWords t = decimal (t .number) ∷ decimal (t .a) ∷ decimal (t .b) ∷ []
-
 unfoldable pub refusalLine : Told → List ℕ
-refusalLine t = line refusedWord (refusalWords t)
+refusalLine t = line refusedWord (decimal (t .number) ∷ decimal (t .a) ∷ decimal (t .b) ∷ [])
 
 abbrev pub textBy : Verdict → Drawing → List ℕ
 textBy Sound d = monitorText d
@@ -99,11 +92,17 @@ textBy (Unsound r) d = refusalLine (toldOf r)
 unfoldable pub textOf : List ℕ → List ℕ
 textOf f = textBy (verdictOn f) (drawingIn f)
 
--- an output of 32,768 bytes has room for the text of any file, and a shorter one is refused 16
-abbrev pub printedBy : List ℕ → ℕ → Written
-printedBy text room = cond (leb 32768 room) (Done (length text)) (Refused Room)
+-- an output of so many bytes has room for every text
+abbrev pub textMax : ℕ
+textMax = 32768
 
--- the promise of printing: the text stands at the front, and every other byte stays
-pub record PrintPromise (f out : List ℕ) (w : Written) (out′ : List ℕ) : Type 0 where
-  pub answer : w ≡ printedBy (textOf f) (length out)
-  pub output : out′ ≡ outputBy (printedBy (textOf f) (length out)) (textOf f) out
+-- the promise of printing: the text at the front of the output and every other byte as it was, or 16 and the output as it was where it does not fit
+abbrev pub PrintPromise : List ℕ → List ℕ → Written → List ℕ → Type 0
+PrintPromise f out w out′ = PutPromise Sound (textOf f) out w out′
+
+-- it looks at nothing else: 16 where the text does not fit
+abbrev pub Printing : List ℕ → ℕ → Table
+Printing f room = Puts NoRows (length (textOf f)) room
+
+abbrev pub printingOrder : List ℕ
+printingOrder = putOrder []

@@ -16,11 +16,11 @@ decimal n =
     (cond (ltb n 100) (digit (n / 10) ∷ digit (n % 10) ∷ [])
     (digit (n / 100) ∷ digit (n / 10 % 10) ∷ digit (n % 10) ∷ []))
 
--- each word after a space
-unfoldable pub spaced : List (List ℕ) → List ℕ
-spaced [] = []
-spaced (w ∷ ws) = (32 ∷ w) ++ spaced ws
+-- the rest of a line: each word after a space, and then byte 10
+unfoldable pub rest : List (List ℕ) → List ℕ
+rest [] = 10 ∷ []
+rest (w ∷ ws) = (32 ∷ w) ++ rest ws
 
--- a line: a word, each further one after a space, and byte 10
+-- a line: a word, and its rest
 unfoldable pub line : List ℕ → List (List ℕ) → List ℕ
-line first words = first ++ (spaced words ++ (10 ∷ []))
+line first words = first ++ rest words

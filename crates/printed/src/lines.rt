@@ -1,19 +1,13 @@
 // The lines of a printed monitor, into an output from a place on. Each writer answers the place after what it wrote.
 ghost use mathlib.Core.Path.{_≡_};
-ghost use mathlib.Core.List.{_∷_};
-ghost use lib.ListN.{getD};
 ghost use Rattle.rule.specs.Reach.{target};
-ghost use Rattle.rule.specs.declared.Operation.the-variants.{Halt};
 ghost use Rattle.rulefile.specs.Layout.{flatUpTo};
-ghost use Rattle.printed.specs.Placing.{Room, LineRoom, Put};
-ghost use Rattle.printed.specs.Printing.{header, moveWords, cellLine, rowLines, cellLines, stopLine, refusalLine};
-ghost use Rattle.printed.specs.Text.{decimal};
-ghost use Rattle.printed.specs.Writers.{cellEnd, halts, stopIf, stopAt};
-use crate::text::put_byte;
-use crate::text::put_decimal;
-use crate::text::put_line;
+ghost use Rattle.printed.specs.Placing.{Put};
+ghost use Rattle.printed.specs.Printing.{header, cellOf, rowLines, cellLines, stopLine, refusalLine};
+ghost use Rattle.printed.specs.Writers.{cellEnd, into, haltsInto, stopAt};
+use crate::text::put;
 use crate::text::put_number;
-use crate::text::put_word;
+use crate::text::put_two;
 use reach::next;
 use rule::EventNo;
 use rule::Operation;
@@ -23,37 +17,44 @@ use rule::Told;
 
 // The first line: class, N, K, m, initial state.
 pub(crate) fn put_header(out: &mut [u8], at: usize, shape: Shape) -> usize
-    requires { ⌜ Room (now out) at (header shape) ⌝ }
     ensures { λ r. ⌜ Put (now (out .entry)) at (header shape) r (now (out .exit)) ⌝ }
 {
     let initial = shape.initial;
-    let numbers = [
-        shape.class,
-        shape.states,
-        shape.events,
-        shape.pairs,
-        initial.0,
-    ];
-    put_line(out, at, b"rule", &numbers)
+    let mut end = put_number(out, at, b"rule ", shape.class);
+    end = put_two(out, end, shape.states, shape.events);
+    end = put_two(out, end, shape.pairs, initial.0);
+    put(out, end, b"\n")
 }
 
 // The only line of a refusal: its number and places.
 pub(crate) fn put_refusal(out: &mut [u8], at: usize, told: Told) -> usize
-    requires { ⌜ Room (now out) at (refusalLine told) ⌝ }
     ensures { λ r. ⌜ Put (now (out .entry)) at (refusalLine told) r (now (out .exit)) ⌝ }
 {
-    put_line(out, at, b"refused", &[told.number, told.a, told.b])
+    let mut end = put_number(out, at, b"refused ", told.number);
+    end = put_two(out, end, told.a, told.b);
+    put(out, end, b"\n")
 }
 
 // The end of a cell: the operation's word after a space, and the end of the line.
 fn put_operation(out: &mut [u8], at: usize, operation: Operation) -> usize
-    requires { ⌜ Room (now out) at (cellEnd operation) ⌝ }
     ensures { λ r. ⌜ Put (now (out .entry)) at (cellEnd operation) r (now (out .exit)) ⌝ }
 {
     match operation {
-        Operation::Halt => put_word(out, at, b" halt\n"),
-        Operation::Store => put_word(out, at, b" store\n"),
-        Operation::Dump => put_word(out, at, b" dump\n"),
+        Operation::Halt => put(out, at, b" halt\n"),
+        Operation::Store => put(out, at, b" store\n"),
+        Operation::Dump => put(out, at, b" dump\n"),
+    }
+}
+
+// The operation of a move into t.
+fn at_target(operations: [Operation; 64], t: StateNo) -> Operation
+    ensures { λ r. ⌜ r ≡ into operations (t .0) ⌝ }
+{
+    let i = t.0 as usize;
+    if i < 64 {
+        operations[i]
+    } else {
+        Operation::Halt
     }
 }
 
@@ -63,28 +64,16 @@ fn put_cell(
     at: usize,
     s: StateNo,
     e: EventNo,
-    t: StateNo,
-    operation: Operation,
+    table: &[u8],
+    events: u8,
+    operations: [Operation; 64],
 ) -> usize
-    requires { ⌜ LineRoom (now out) at (decimal (s .0) ∷ moveWords (e .0) (t .0) operation) ⌝ }
-    ensures { λ r. ⌜ Put (now (out .entry)) at (cellLine (s .0) (e .0) (t .0) operation) r (now (out .exit)) ⌝ }
+    ensures { λ r. ⌜ Put (now (out .entry)) at (cellOf (target (now (table .entry)) events) (into operations) (s .0) (e .0)) r (now (out .exit)) ⌝ }
 {
-    let mut end = put_decimal(out, at, s.0);
-    end = put_number(out, end, e.0);
-    end = put_number(out, end, t.0);
-    put_operation(out, end, operation)
-}
-
-// The operation of a move into t.
-fn at_target(operations: [Operation; 64], t: StateNo) -> Operation
-    ensures { λ r. ⌜ r ≡ getD operations (t .0) Halt ⌝ }
-{
-    let i = t.0 as usize;
-    if i < 64 {
-        operations[i]
-    } else {
-        Operation::Halt
-    }
+    let t = next(table, events, s, e);
+    let mut end = put_number(out, at, b"", s.0);
+    end = put_two(out, end, e.0, t.0);
+    put_operation(out, end, at_target(operations, t))
 }
 
 // The cells of a state.
@@ -96,13 +85,11 @@ fn put_row(
     events: u8,
     operations: [Operation; 64],
 ) -> usize
-    requires { ⌜ Room (now out) at (rowLines (target (now table) events) (λ t. getD operations t Halt) events (s .0)) ⌝ }
-    ensures { λ r. ⌜ Put (now (out .entry)) at (rowLines (target (now (table .entry)) events) (λ t. getD operations t Halt) events (s .0)) r (now (out .exit)) ⌝ }
+    ensures { λ r. ⌜ Put (now (out .entry)) at (rowLines (target (now (table .entry)) events) (into operations) events (s .0)) r (now (out .exit)) ⌝ }
 {
     let mut end = at;
     for e in 0..events {
-        let t = next(table, events, s, EventNo(e));
-        end = put_cell(out, end, s, EventNo(e), t, at_target(operations, t));
+        end = put_cell(out, end, s, EventNo(e), table, events, operations);
     }
     end
 }
@@ -116,8 +103,7 @@ pub(crate) fn put_cells(
     events: u8,
     operations: [Operation; 64],
 ) -> usize
-    requires { ⌜ Room (now out) at (cellLines (target (now table) events) (λ t. getD operations t Halt) events states) ⌝ }
-    ensures { λ r. ⌜ Put (now (out .entry)) at (cellLines (target (now (table .entry)) events) (λ t. getD operations t Halt) events states) r (now (out .exit)) ⌝ }
+    ensures { λ r. ⌜ Put (now (out .entry)) at (cellLines (target (now (table .entry)) events) (into operations) events states) r (now (out .exit)) ⌝ }
 {
     let mut end = at;
     for s in 0..states {
@@ -127,12 +113,11 @@ pub(crate) fn put_cells(
 }
 
 // A state after a space where a move into it halts.
-fn put_stop(out: &mut [u8], at: usize, q: StateNo, operation: Operation) -> usize
-    requires { ⌜ Room (now out) at (stopIf (halts operation) (q .0)) ⌝ }
-    ensures { λ r. ⌜ Put (now (out .entry)) at (stopIf (halts operation) (q .0)) r (now (out .exit)) ⌝ }
+fn put_stop(out: &mut [u8], at: usize, q: StateNo, operations: [Operation; 64]) -> usize
+    ensures { λ r. ⌜ Put (now (out .entry)) at (stopAt (haltsInto operations) (q .0)) r (now (out .exit)) ⌝ }
 {
-    match operation {
-        Operation::Halt => put_number(out, at, q.0),
+    match at_target(operations, q) {
+        Operation::Halt => put_number(out, at, b" ", q.0),
         Operation::Store => at,
         Operation::Dump => at,
     }
@@ -140,12 +125,11 @@ fn put_stop(out: &mut [u8], at: usize, q: StateNo, operation: Operation) -> usiz
 
 // Each such state, rising.
 fn put_stops(out: &mut [u8], at: usize, states: u8, operations: [Operation; 64]) -> usize
-    requires { ⌜ Room (now out) at (flatUpTo (stopAt (λ t. halts (getD operations t Halt))) states) ⌝ }
-    ensures { λ r. ⌜ Put (now (out .entry)) at (flatUpTo (stopAt (λ t. halts (getD operations t Halt))) states) r (now (out .exit)) ⌝ }
+    ensures { λ r. ⌜ Put (now (out .entry)) at (flatUpTo (stopAt (haltsInto operations)) states) r (now (out .exit)) ⌝ }
 {
     let mut end = at;
     for q in 0..states {
-        end = put_stop(out, end, StateNo(q), at_target(operations, StateNo(q)));
+        end = put_stop(out, end, StateNo(q), operations);
     }
     end
 }
@@ -157,13 +141,12 @@ pub(crate) fn put_stop_line(
     states: u8,
     operations: [Operation; 64],
 ) -> usize
-    requires { ⌜ Room (now out) at (stopLine (λ t. halts (getD operations t Halt)) states) ⌝ }
-    ensures { λ r. ⌜ Put (now (out .entry)) at (stopLine (λ t. halts (getD operations t Halt)) states) r (now (out .exit)) ⌝ }
+    ensures { λ r. ⌜ Put (now (out .entry)) at (stopLine (haltsInto operations) states) r (now (out .exit)) ⌝ }
 {
-    let words = put_word(out, at, b"stop");
-    let end = put_stops(out, words, states, operations);
-    if end == words {
-        return put_word(out, end, b" -\n");
+    let words = put(out, at, b"stop");
+    let stops = put_stops(out, words, states, operations);
+    if stops == words {
+        return put(out, stops, b" -\n");
     }
-    put_byte(out, end, 10)
+    put(out, stops, b"\n")
 }

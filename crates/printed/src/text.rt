@@ -1,71 +1,53 @@
-// Text into an output, from a place on. Each writer answers the place after what it wrote.
-ghost use mathlib.Core.List.{[], _∷_, map};
-ghost use Rattle.printed.specs.Placing.{Room, Put};
-ghost use Rattle.printed.specs.Text.{decimal, spaced, line};
+// Text into an output, from a place on and as far as the output goes. Each writer answers the place after its text, past the output's
+// end too: an output of no bytes measures a text.
+ghost use mathlib.Core.Path.{_≡_};
+ghost use mathlib.Core.List.{_∷_, _++_};
+ghost use Prim.Native.Nat.{_+_, min};
+ghost use Rattle.printed.specs.Placing.{lastPlace, Put};
+ghost use Rattle.printed.specs.Text.{decimal};
 
-// A byte.
-pub(crate) fn put_byte(out: &mut [u8], at: usize, byte: u8) -> usize
-    requires { ⌜ Room (now out) at (byte ∷ []) ⌝ }
-    ensures { λ r. ⌜ Put (now (out .entry)) at (byte ∷ []) r (now (out .exit)) ⌝ }
+// The place so many bytes further, or the last that there is.
+fn further(at: usize, count: usize) -> usize
+    ensures { λ r. ⌜ r ≡ min (at + count) lastPlace ⌝ }
 {
-    out[at] = byte;
-    at + 1
+    if count <= usize::MAX - at {
+        at + count
+    } else {
+        usize::MAX
+    }
 }
 
 // A word.
-pub(crate) fn put_word(out: &mut [u8], at: usize, word: &[u8]) -> usize
-    requires { ⌜ Room (now out) at (now word) ⌝ }
+pub(crate) fn put(out: &mut [u8], at: usize, word: &[u8]) -> usize
     ensures { λ r. ⌜ Put (now (out .entry)) at (now (word .entry)) r (now (out .exit)) ⌝ }
 {
+    let end = further(at, word.len());
+    if out.len() < at {
+        return end;
+    }
     octets::copy(word, &mut out[at..]);
-    at + word.len()
-}
-
-// A number in decimal.
-pub(crate) fn put_decimal(out: &mut [u8], at: usize, n: u8) -> usize
-    requires { ⌜ Room (now out) at (decimal n) ⌝ }
-    ensures { λ r. ⌜ Put (now (out .entry)) at (decimal n) r (now (out .exit)) ⌝ }
-{
-    let mut end = at;
-    if 100 <= n {
-        end = put_byte(out, end, 48 + n / 100);
-    }
-    if 10 <= n {
-        end = put_byte(out, end, 48 + n / 10 % 10);
-    }
-    put_byte(out, end, 48 + n % 10)
-}
-
-// A number in decimal after a space.
-pub(crate) fn put_number(out: &mut [u8], at: usize, n: u8) -> usize
-    requires { ⌜ Room (now out) at (32 ∷ decimal n) ⌝ }
-    ensures { λ r. ⌜ Put (now (out .entry)) at (32 ∷ decimal n) r (now (out .exit)) ⌝ }
-{
-    let digits = put_byte(out, at, 32);
-    put_decimal(out, digits, n)
-}
-
-// Each of some numbers in decimal after a space.
-fn put_numbers(out: &mut [u8], at: usize, numbers: &[u8]) -> usize
-    requires { ⌜ Room (now out) at (spaced (map decimal (now numbers))) ⌝ }
-    ensures { λ r. ⌜ Put (now (out .entry)) at (spaced (map decimal (now (numbers .entry)))) r (now (out .exit)) ⌝ }
-{
-    let mut end = at;
-    let mut i = 0;
-    while i < numbers.len() {
-        let n = numbers[i];
-        end = put_number(out, end, n);
-        i += 1;
-    }
     end
 }
 
-// A line of a word and some numbers.
-pub(crate) fn put_line(out: &mut [u8], at: usize, word: &[u8], numbers: &[u8]) -> usize
-    requires { ⌜ Room (now out) at (line (now word) (map decimal (now numbers))) ⌝ }
-    ensures { λ r. ⌜ Put (now (out .entry)) at (line (now (word .entry)) (map decimal (now (numbers .entry)))) r (now (out .exit)) ⌝ }
+// A word, and right after it a number in decimal.
+pub(crate) fn put_number(out: &mut [u8], at: usize, word: &[u8], n: u8) -> usize
+    ensures { λ r. ⌜ Put (now (out .entry)) at (now (word .entry) ++ decimal n) r (now (out .exit)) ⌝ }
 {
-    let words = put_word(out, at, word);
-    let end = put_numbers(out, words, numbers);
-    put_byte(out, end, 10)
+    let start = put(out, at, word);
+    let digits = [48 + n / 100, 48 + n / 10 % 10, 48 + n % 10];
+    if n < 10 {
+        return put(out, start, &digits[2..]);
+    }
+    if n < 100 {
+        return put(out, start, &digits[1..]);
+    }
+    put(out, start, &digits)
+}
+
+// Two numbers in decimal, each after a space.
+pub(crate) fn put_two(out: &mut [u8], at: usize, a: u8, b: u8) -> usize
+    ensures { λ r. ⌜ Put (now (out .entry)) at (32 ∷ (decimal a ++ (32 ∷ decimal b))) r (now (out .exit)) ⌝ }
+{
+    let end = put_number(out, at, b" ", a);
+    put_number(out, end, b" ", b)
 }

@@ -22,6 +22,7 @@ fn unread(refusal: Refusal) -> Reading
         events: 0,
         pairs: 0,
         initial: StateNo(0),
+        mode: 0,
     };
     Reading {
         verdict: Verdict::Refused(refusal),

@@ -2,10 +2,10 @@
 use Prim.Native.Nat.{ℕ, _≤_, _<_}
 use native.Mathlib.Omega.{arith}
 use lib.Dec.{leb, ltb, eqb}
-use borrow.Author.Tests.{eqb-true, eq-eqb, leb-true, le-leb, ltb-true, lt-ltb}
+use borrow.Author.Tests.{eqb-true, eqb-false, eq-eqb, ne-eqb, leb-true, leb-false, le-leb, lt-leb, ltb-true, ltb-false, lt-ltb, le-ltb}
 use mathlib.Core.Path.{_≡_, refl}
 use mathlib.Core.Bool.{Bool, true, false, not, _&&_, _||_}
-use mathlib.Core.Logic.{_⊎_, inl, inr, ⊎-elim, _↔_}
+use mathlib.Core.Logic.{_⊎_, inl, inr, ⊎-elim, _↔_, Iff·trans}
 
 -- no test both holds and fails
 pub clash : {A : Type 0} {b : Bool} → b ≡ true → b ≡ false → A
@@ -73,3 +73,29 @@ ne-says {A} {a} f = (λ p x. clash (f .1 x) (not-says a .0 p), λ n. not-says a 
 -- the other words for what it says
 pub in-words : {A B : Type 0} {b : Bool} → Says b A → (A → B) → (B → A) → Says b B
 in-words s f g = (λ p. f (s .0 p), λ p. s .1 (g p))
+
+-- what a test says where it fails
+
+abbrev pub Fails : Bool → Type 0 → Type 0
+Fails t A = (t ≡ false) ↔ A
+
+-- the same of its contrary
+pub fails-say : {A : Type 0} {t : Bool} → Fails t A → Says (not t) A
+fails-say {t = t} f = Iff·trans (not-says t) f
+
+pub le-fails : (x y : ℕ) → Fails (leb x y) (y < x)
+le-fails x y = (leb-false x y, lt-leb x y)
+
+pub lt-fails : (x y : ℕ) → Fails (ltb x y) (y ≤ x)
+lt-fails x y = (ltb-false x y, le-ltb x y)
+
+pub eq-fails : (x y : ℕ) → Fails (eqb x y) (x ≡ y → ⊥)
+eq-fails x y = (eqb-false x y, ne-eqb x y)
+
+pub and-fails : {A B : Type 0} {a b : Bool} → Fails a A → Fails b B → Fails (a && b) (A ⊎ B)
+and-fails {a = true} f g = (λ p. inr (g .0 p), ⊎-elim (λ x. clash refl (f .1 x)) (g .1))
+and-fails {a = false} f g = (λ p. inl (f .0 refl), λ x. refl)
+
+pub or-fails : {A B : Type 0} {a b : Bool} → Fails a A → Fails b B → Fails (a || b) (A × B)
+or-fails {a = true} f g = (λ p. clash refl p, λ x. f .1 (x .0))
+or-fails {a = false} f g = (λ p. (f .0 refl, g .0 p), λ x. g .1 (x .1))

@@ -11,7 +11,8 @@ use Rattle.rule.specs.Drawing.{Drawing, states, count, next, pairAt}
 use Rattle.rule.specs.Classes.{NoneInto, NoneOut, OfClass, safety, guarantee, obligation, response}
 use Rattle.rule.specs.Refusals.{firstOf, excess, moves, conditions}
 use Rattle.rule.specs.Given.{NoCell, NoPair, BadPair, Names, TooMuch, with-R, with-P, Forbidden, into-P, out-of-R}
-use Rattle.rule.specs.WellDrawn.{WellDrawn, InRange}
+use Rattle.rule.specs.Range.{Shaped}
+use Rattle.rule.specs.WellDrawn.{WellDrawn}
 use Rattle.rule.specs.declared.Verdict.the-variants.{Sound}
 use Rattle.rule.proofs.BoolLaws.{clash, so, not-so}
 use Rattle.rule.proofs.SetLaws.{has-none, names-iff, none-named}
@@ -55,9 +56,9 @@ module _ (d : Drawing) (whole : length (d .pairs) ≡ count d) where
         response (record { one = one; no-P = no-P (inr e) })
     by-class (suc (suc (suc (suc (suc c))))) e a b o = absurd (omega arith)
 
-  pub of-class : InRange d → excess d ≡ Sound → moves d ≡ Sound → OfClass d class
-  of-class range e m =
-      by-class (excess-sound d .0 e) (moves-sound d whole .0 m) class refl (range .class-in .0) (range .class-in .1) (range .one-pair)
+  pub of-class : Shaped (d .shape) → excess d ≡ Sound → moves d ≡ Sound → OfClass d class
+  of-class shaped e m =
+      by-class (excess-sound d .0 e) (moves-sound d whole .0 m) class refl (shaped .classed .low) (shaped .classed .high) (shaped .ranged .one-pair)
 
   -- back to them
 
@@ -100,16 +101,16 @@ module _ (d : Drawing) (whole : length (d .pairs) ≡ count d) where
       none-named (states d) x (not-so (namesPast (states d) x) (λ p.
       let g = names-iff (states d) x .0 p in n i h (bad (record { state = g .0; past = g .1; member = g .2 }))))
 
-  pub well-drawn : InRange d → firstOf (conditions d) ≡ Sound → WellDrawn d
-  well-drawn range p =
+  pub well-drawn : Shaped (d .shape) → firstOf (conditions d) ≡ Sound → WellDrawn d
+  well-drawn shaped p =
       let g = conditions-sound d p in
       let named = members-sound d .0 (g .1) in
       record {
-        few-states = range .states-in .1;
-        initial-in = range .initial-in;
+        few-states = shaped .ranged .numbers .few-states;
+        initial-in = shaped .ranged .numbers .initial-in;
         closed = entries-sound d .0 (g .0);
         whole = whole;
         R-in = λ i h. below named i h (pairAt d i .r) inl;
         P-in = λ i h. below named i h (pairAt d i .p) inr;
-        none-into = none-into-P (of-class range (g .2) (g .3));
+        none-into = none-into-P (of-class shaped (g .2) (g .3));
       }

@@ -10,10 +10,12 @@ pub mod WayLaws
 pub mod ReachLaws
 -- refusals: which is first, when each is given, and their numbers
 pub mod BoolLaws
+pub mod RangeLaws
 pub mod RefusalLaws
 pub mod GivenLaws
 pub mod NumberLaws
 pub mod TableLaws
+pub mod PutLaws
 -- operations, stopping states and classes
 pub mod PairLaws
 pub mod OrderLaws

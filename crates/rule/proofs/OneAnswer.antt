@@ -3,6 +3,9 @@ use mathlib.Core.Path.{refl, sym, _∙_}
 use Rattle.contracts.specs.Contract.{OneAnswer}
 use Rattle.rule.proofs
 
+pub Limits-hold-one-answer : OneAnswer proofs.Limits.hold.ended proofs.Limits.hold.Reads.Learnt
+Limits-hold-one-answer κs a x y = (x .told ∙ sym (y .told), refl)
+
 pub Operation-mark-one-answer : OneAnswer proofs.Operation.mark.ended proofs.Operation.mark.Reads.Learnt
 Operation-mark-one-answer κs a x y = (x .told ∙ sym (y .told), refl)
 

@@ -18,7 +18,7 @@ stateNo s = record { 0 = s }
 abbrev pub eventNo : ℕ → EventNo
 eventNo e = record { 0 = e }
 
--- a drawing: class, N, K, m and initial state; the note; the table, row by state, then by event; the accepting pairs
+-- a drawing: class, N, K, m, initial state and mode; the note; the table, row by state, then by event; the accepting pairs
 pub record Drawing : Type 0 where
   pub shape : Shape
   pub note : List ℕ
@@ -87,7 +87,7 @@ ruleOf d =
 unfoldable pub zeroRule : Rule
 zeroRule =
     record {
-      shape = record { class = 0; states = 0; events = 0; pairs = 0; initial = stateNo 0 };
+      shape = record { class = 0; states = 0; events = 0; pairs = 0; initial = stateNo 0; mode = 0 };
       length = 0;
       note = replicate 1024 0;
       table = replicate 2048 0;

@@ -1,6 +1,7 @@
 pub mod Arrays
 pub mod Sets
 pub mod Reach
+pub mod Range
 pub mod Drawing
 pub mod Acceptance
 pub mod Operations
@@ -8,6 +9,7 @@ pub mod Stopping
 pub mod Classes
 pub mod Refusals
 pub mod Given
+pub mod Putting
 pub mod Published
 pub mod Constructions
 pub mod WellDrawn

@@ -3,6 +3,7 @@
 ghost use mathlib.Core.Path.{_≡_};
 ghost use Rattle.rule.specs.Operations.{markOf};
 ghost use Rattle.rule.specs.Reach.{placeOf};
+ghost use Rattle.rule.specs.Range.{inRange};
 ghost use Rattle.rule.specs.Refusals.{tell, toldOf};
 
 // A state's number, and an event's code. Each is a type of its own, so that neither stands where the other is meant.
@@ -23,13 +24,14 @@ pub struct Pair {
     pub p: u64,
 }
 
-// The class, N, K, m and the initial state.
+// The class, N, K, m, the initial state and the mode, which is 0.
 pub struct Shape {
     pub class: u8,
     pub states: u8,
     pub events: u8,
     pub pairs: u8,
     pub initial: StateNo,
+    pub mode: u8,
 }
 
 // A rule by value: of the note the first `length` bytes are used, of the table the first N*K, of the pairs the first m.
@@ -41,6 +43,24 @@ pub struct Rule {
     pub pairs: [Pair; 8],
 }
 
+// The largest N and K that there may be.
+pub struct Limits {
+    pub states: u8,
+    pub events: u8,
+}
+
+impl Limits {
+    // Whether N and K are 1 at least and within these limits, and the initial state is one of the N. The tests are joined by `&`, as
+    // in the definition: none of them can fail, and there is no branch for each.
+    pub fn hold(self, states: u8, events: u8, initial: StateNo) -> bool
+        ensures { λ r. ⌜ r ≡ inRange self states events (initial .0) ⌝ }
+    {
+        let some_states = (1 <= states) & (states <= self.states);
+        let some_events = (1 <= events) & (events <= self.events);
+        some_states & (some_events & (initial.0 < states))
+    }
+}
+
 impl Rule {
     // The limits of N, K and m.
     pub const STATES: u8 = 64;
@@ -48,6 +68,9 @@ impl Rule {
     pub const EVENTS: u8 = 32;
 
     pub const PAIRS: u8 = 8;
+
+    // The longest note.
+    pub const NOTE: usize = 1024;
 }
 
 // What the monitor does at a move, rising.
@@ -96,6 +119,12 @@ pub enum Refusal {
 // What checking comes to.
 pub enum Verdict {
     Sound,
+    Refused(Refusal),
+}
+
+// What a call that writes comes to: so many bytes at the front of the output, or a refusal.
+pub enum Written {
+    Done(usize),
     Refused(Refusal),
 }
 

@@ -7,13 +7,14 @@ use lib.ListN.{length}
 use lib.Seq.{length-take-le}
 use borrow.Author.Tests.{le-leb}
 use Rattle.rule.specs.Drawing.{Drawing, states, events, count, noPair, drawn, ruleOf}
+use Rattle.rule.specs.Range.{Classed, Ranged}
 use Rattle.rule.specs.Refusals.{firstOf, conditions}
 use Rattle.rule.specs.declared.Rule.{Rule}
 use Rattle.rule.specs.declared.Verdict.{Verdict}
 use Rattle.rule.specs.declared.Verdict.the-variants.{Sound}
 use Rattle.rule.proofs.RefusalLaws.{first-append, else-sound}
 use Rattle.trailer.specs.Conditions.{class, range}
-use Rattle.trailer.proofs.SoundLaws.{Classed, classed-says, Ranged, ranged-says, cells-in}
+use Rattle.trailer.proofs.SoundLaws.{classed-says, ranged-says, cells-in}
 use Rattle.rulefile.specs.Layout.{drawingIn}
 use Rattle.rulefile.specs.Writing.{measureConditions, verdictOf, Held}
 use Rattle.rulefile.proofs.ListLaws.{length-padded, take-padded}
@@ -28,7 +29,7 @@ append-sound vs ws e = else-sound (firstOf vs) (firstOf ws) .0 (rw first-append 
 -- a drawing that has all its parts and that no check refuses
 pub record SoundDrawing (d : Drawing) : Type 0 where
   pub class : Classed (d .shape)
-  pub range : Ranged (d .shape) 0
+  pub range : Ranged (d .shape)
   pub note-in : length (d .note) ≤ 1024
   pub table-whole : length (d .table) ≡ states d * events d
   pub pairs-whole : length (d .pairs) ≡ count d
@@ -39,7 +40,7 @@ pub file-drawing : (f : List ℕ) → SoundFile f → SoundDrawing (drawingIn f)
 file-drawing f s =
     record {
       class = rw (shape-drawn f s) (s .classed);
-      range = rw (shape-drawn f s) (rw (s .ranged .spare-none) at (s .ranged));
+      range = rw (shape-drawn f s) (s .ranged);
       note-in = rw (note-drawn f s) (s .placed .note-in);
       table-whole = file-table f s;
       pairs-whole = file-pairs f s;
@@ -57,7 +58,7 @@ rule-drawing r h e =
       range = m .ranged;
       note-in = rw (length-take-le (r .length) (r .note) (rw (h .note-long) (m .note-in))) (m .note-in);
       table-whole = length-take-le _ (r .table) (rw (h .table-long) (cells-in (m .ranged)));
-      pairs-whole = length-take-le (r .shape .pairs) (r .pairs) (rw (h .pairs-long) (m .ranged .pairs-in));
+      pairs-whole = length-take-le (r .shape .pairs) (r .pairs) (rw (h .pairs-long) (m .ranged .few-pairs));
       passes = p .1;
     }
 
@@ -76,11 +77,11 @@ module _ (d : Drawing) (s : SoundDrawing d) where
       record {
         note-long = length-padded 1024 0 (d .note) (s .note-in);
         table-long = length-padded 2048 0 (d .table) (rw (s .table-whole) (cells-in (s .range)));
-        pairs-long = length-padded 8 noPair (d .pairs) (rw (s .pairs-whole) (s .range .pairs-in));
+        pairs-long = length-padded 8 noPair (d .pairs) (rw (s .pairs-whole) (s .range .few-pairs));
       }
 
   -- no check refuses it
   pub rule-sound : verdictOf (ruleOf d) ≡ Sound
   unfolding verdictOf firstOf ruleOf
   rule-sound =
-      rw (drawn-rule, classed-says (d .shape) .1 (s .class), ranged-says (d .shape) 0 .1 (s .range), le-leb (length (d .note)) 1024 (s .note-in)) (s .passes)
+      rw (drawn-rule, classed-says (d .shape) .1 (s .class), ranged-says (d .shape) .1 (s .range), le-leb (length (d .note)) 1024 (s .note-in)) (s .passes)

@@ -12,6 +12,7 @@ use Rattle.rule.specs.Reach.{target}
 use Rattle.rule.specs.Classes.{movesInto, forbids, forbidsSome}
 use Rattle.rule.specs.Stopping.{stopsBy}
 use Rattle.rule.specs.Drawing.{stateNo}
+use Rattle.rule.specs.Range.{inRange, under, over, bad-N, bad-K, bad-initial}
 use Rattle.rule.specs.Refusals.{firstOf, firstBelow, firstCell, entries, members, exceeds, excess, moves, stopped, empties}
 use Rattle.rule.specs.Given.{here}
 use Rattle.rule.specs.declared.Shape.{Shape}
@@ -19,10 +20,12 @@ use Rattle.rule.specs.declared.Refusal.the-variants.{Frame, Range, Distance}
 use Rattle.rule.specs.declared.Verdict.the-variants.{Sound, Refused}
 use Rattle.rule.proofs.SetLaws.{below-or}
 use Rattle.rule.proofs.TableLaws.{NoneOf, own-row, behind}
-use Rattle.trailer.specs.Conditions.{tableBack, pairsBack, framed, classed, ranged, placed}
-use Rattle.rulefile.specs.Layout.{trailerOf, trailerIn, upTo, flatUpTo, drawingIn, trailerOut, fileOf}
+use Rattle.trailer.specs.Layout.{tableBack, pairsBack}
+use Rattle.trailer.specs.Conditions.{framed, classed, ranged, placed}
+use Rattle.trailer.specs.Layout.{trailerOf, trailerIn, trailerOut}
+use Rattle.rulefile.specs.Layout.{upTo, flatUpTo, drawingIn, fileOf}
 use Rattle.rulefile.specs.Reading.{verdictOn, readingOf}
-use Rattle.rulefile.specs.Given.{under, over, bad-size, BadRange, bad-N, bad-K, bad-m, bad-initial, byte-5, not-one, to-table, to-pairs, short}
+use Rattle.rulefile.specs.Given.{bad-size, BadRange, bad-numbers, bad-m, byte-5, not-one, to-table, to-pairs, short}
 use Rattle.rulefile.specs.Given.{note, Reading, at-1, at-3, at-4, drawing}
 use Rattle.rulefile.proofs.GivenLaws.{file-within, read-gives, read-sound}
 
@@ -31,7 +34,7 @@ use Rattle.rulefile.proofs.GivenLaws.{file-within, read-gives, read-sou
 unfoldable pub sample : ℕ → ℕ → List ℕ
 sample n k =
     fileOf (record {
-      shape = record { class = 1; states = n; events = 1; pairs = 1; initial = stateNo 0 };
+      shape = record { class = 1; states = n; events = 1; pairs = 1; initial = stateNo 0; mode = 0 };
       note = replicate k 0;
       table = upTo (λ s. s) n;
       pairs = record { r = 0; p = 1 } ∷ [];
@@ -46,24 +49,25 @@ pub record Samples : Type 0 where
   pub bytes : length (sample 1 0) ≡ 29
 
 pub samples : Samples
-unfolding sample readingOf verdictOn fileOf firstOf firstBelow firstCell entries members exceeds excess moves stopped empties trailerOf drawingIn upTo flatUpTo framed classed ranged placed trailerOut valueOf digits has isEmpty namesPast target movesInto forbids forbidsSome stopsBy
+unfolding sample readingOf verdictOn fileOf firstOf firstBelow firstCell entries members exceeds excess moves stopped empties trailerOf drawingIn upTo flatUpTo framed classed ranged inRange placed trailerOut valueOf digits has isEmpty namesPast target movesInto forbids forbidsSome stopsBy
 samples = record { states-64 = refl; states-65 = refl; note-1024 = refl; note-1025 = refl; shortest = refl; bytes = refl }
 
 -- of every file
 
 -- a shape with another N
 abbrev withStates : ℕ → Shape → Shape
-withStates n s = record { class = s .class; states = n; events = s .events; pairs = s .pairs; initial = s .initial }
+withStates n s = record { class = s .class; states = n; events = s .events; pairs = s .pairs; initial = s .initial; mode = s .mode }
 
 -- a shape that is in range still is with N 64
-pub in-range-64 : (s : Shape) (spare : ℕ) → (BadRange s spare → ⊥) → BadRange (withStates 64 s) spare → ⊥
-in-range-64 s spare o (bad-N (under h)) = omega arith
-in-range-64 s spare o (bad-N (over h)) = omega arith
-in-range-64 s spare o (bad-K h) = o (bad-K h)
-in-range-64 s spare o (bad-m h) = o (bad-m h)
-in-range-64 s spare o (bad-initial h) = below-or 64 (s .states) (λ k. o (bad-N (over k))) (λ k. o (bad-initial (omega arith)))
-in-range-64 s spare o (byte-5 h) = o (byte-5 h)
-in-range-64 s spare o (not-one c h) = o (not-one c h)
+pub in-range-64 : (s : Shape) → (BadRange s → ⊥) → BadRange (withStates 64 s) → ⊥
+in-range-64 s o (bad-numbers (bad-N (under h))) = omega arith
+in-range-64 s o (bad-numbers (bad-N (over h))) = omega arith
+in-range-64 s o (bad-numbers (bad-K h)) = o (bad-numbers (bad-K h))
+in-range-64 s o (bad-m h) = o (bad-m h)
+in-range-64 s o (bad-numbers (bad-initial h)) =
+    below-or 64 (s .states) (λ k. o (bad-numbers (bad-N (over k)))) (λ k. o (bad-numbers (bad-initial (omega arith))))
+in-range-64 s o (byte-5 h) = o (byte-5 h)
+in-range-64 s o (not-one c h) = o (not-one c h)
 
 module _ (f : List ℕ) where
   abbrev shape : Shape
@@ -72,7 +76,7 @@ module _ (f : List ℕ) where
   -- N 65 is refused 3, where 1 and 2 are not given
   pub refused-65 : shape .states ≡ 65 → NoneOf (Reading f) (1 ∷ 2 ∷ []) → readingOf f .verdict ≡ Refused Range
   unfolding drawingIn
-  refused-65 e n = read-gives f Range .1 (behind (1 ∷ 2 ∷ []) _ n .0 (here (drawing (at-3 (bad-N (over (omega arith)))))))
+  refused-65 e n = read-gives f Range .1 (behind (1 ∷ 2 ∷ []) _ n .0 (here (drawing (at-3 (bad-numbers (bad-N (over (omega arith))))))))
 
   -- the note: the bytes before the table
   abbrev noteSize : ℕ
@@ -102,7 +106,7 @@ module _ (f : List ℕ) where
   unfolding drawingIn
   at-least-29 v =
       let no-row = read-sound f .0 v in
-      let N : 1 ≤ shape .states = below-or (shape .states) 1 (λ h. absurd (no-row 3 Range (drawing (at-3 (bad-N (under h)))))) (λ h. h) in
-      let K : 1 ≤ shape .events = below-or (shape .events) 1 (λ h. absurd (no-row 3 Range (drawing (at-3 (bad-K (under h)))))) (λ h. h) in
+      let N : 1 ≤ shape .states = below-or (shape .states) 1 (λ h. absurd (no-row 3 Range (drawing (at-3 (bad-numbers (bad-N (under h))))))) (λ h. h) in
+      let K : 1 ≤ shape .events = below-or (shape .events) 1 (λ h. absurd (no-row 3 Range (drawing (at-3 (bad-numbers (bad-K (under h))))))) (λ h. h) in
       let m : 1 ≤ shape .pairs = below-or (shape .pairs) 1 (λ h. absurd (no-row 3 Range (drawing (at-3 (bad-m (under h)))))) (λ h. h) in
       below-or (length f) (tableBack shape) (λ h. absurd (no-row 4 Distance (drawing (at-4 (short h))))) (λ h. omega (arith, one-le-mul N K))

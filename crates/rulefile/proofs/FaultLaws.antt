@@ -1,59 +1,34 @@
 -- What the tests of the rows 1 to 4 say where they fail, in the words of the table.
 -- Assumes nothing.
-use Prim.Native.Nat.{ℕ, zero, suc, _+_, _-_, _≤_, _<_}
+use Prim.Native.Nat.{ℕ, zero, suc, _+_, _-_, _≤_}
 use native.Mathlib.Omega.{arith}
 use mathlib.Core.Path.{_≡_, refl, sym, ap, _∙_}
-use mathlib.Core.Bool.{Bool, true, false, not, _&&_, _||_}
+use mathlib.Core.Bool.{Bool, true, false, not, _&&_}
 use mathlib.Core.List.{List}
-use mathlib.Core.Logic.{_⊎_, inl, inr, ⊎-elim, _↔_, Iff·trans}
+use mathlib.Core.Logic.{_⊎_, inl, inr, ⊎-elim, Iff·trans}
 use lib.ListN.{length, getD}
 use lib.Seq.{getD-drop}
-use lib.Dec.{leb, ltb, eqb}
-use borrow.Author.Tests.{leb-false, lt-leb, ltb-false, le-ltb, eqb-false, ne-eqb}
+use lib.Dec.{leb}
+use Rattle.rule.specs.Range.{ruleLimits, mostPairs, Outside, under, over}
 use Rattle.rule.specs.Refusals.{refuseIf}
 use Rattle.rule.specs.declared.Shape.{Shape}
 use Rattle.rule.specs.declared.Refusal.{Refusal}
 use Rattle.rule.specs.declared.Verdict.the-variants.{Sound}
-use Rattle.rule.proofs.BoolLaws.{Says, clash, not-says}
+use Rattle.rule.proofs.BoolLaws.{Fails, fails-say, le-fails, eq-fails, and-fails, or-fails}
+use Rattle.rule.proofs.RangeLaws.{outside-fails, range-fails}
 use Rattle.rule.proofs.SetLaws.{below-or}
 use Rattle.rule.proofs.RefusalLaws.{not-both, refuse-refused}
-use Rattle.trailer.specs.Conditions.{framed, classed, ranged, placed, tableBack, pairsBack}
+use Rattle.trailer.specs.Layout.{tableBack, pairsBack}
+use Rattle.trailer.specs.Conditions.{framed, classed, ranged, placed}
 use Rattle.trailer.specs.declared.Trailer.{Trailer}
-use Rattle.rulefile.specs.Given.{Outside, under, over, trailerByte, BadFrame, bad-size, byte-10, byte-11, BadClass, BadRange, bad-N, bad-K}
-use Rattle.rulefile.specs.Given.{bad-m, bad-initial, byte-5, not-one, BadDistance, to-table, to-pairs, short, note}
+use Rattle.rulefile.specs.Given.{trailerByte, BadFrame, bad-size, byte-10, byte-11, BadClass, BadRange, bad-numbers, bad-m, byte-5, not-one}
+use Rattle.rulefile.specs.Given.{BadDistance, to-table, to-pairs, short, note}
 
--- what a test says where it fails
-
-abbrev pub Fails : Bool → Type 0 → Type 0
-Fails t A = (t ≡ false) ↔ A
-
--- the same of its contrary, and what passed it
-pub fails-say : {A : Type 0} {t : Bool} → Fails t A → Says (not t) A
-fails-say {t = t} f = Iff·trans (not-says t) f
-
+-- what passed a test
 pub passed : {A : Type 0} {t : Bool} (x : Refusal) → Fails t A → refuseIf (not t) x ≡ Sound → A → ⊥
 passed {t = t} x f p a = not-both p (refuse-refused (not t) x x .1 (fails-say f .1 a, refl))
 
-pub le-fails : (x y : ℕ) → Fails (leb x y) (y < x)
-le-fails x y = (leb-false x y, lt-leb x y)
-
-lt-fails : (x y : ℕ) → Fails (ltb x y) (y ≤ x)
-lt-fails x y = (ltb-false x y, le-ltb x y)
-
-eq-fails : (x y : ℕ) → Fails (eqb x y) (x ≡ y → ⊥)
-eq-fails x y = (eqb-false x y, ne-eqb x y)
-
-and-fails : {A B : Type 0} {a b : Bool} → Fails a A → Fails b B → Fails (a && b) (A ⊎ B)
-and-fails {a = true} f g = (λ p. inr (g .0 p), ⊎-elim (λ x. clash refl (f .1 x)) (g .1))
-and-fails {a = false} f g = (λ p. inl (f .0 refl), λ x. refl)
-
-or-fails : {A B : Type 0} {a b : Bool} → Fails a A → Fails b B → Fails (a || b) (A × B)
-or-fails {a = true} f g = (λ p. clash refl p, λ x. f .1 (x .0))
-or-fails {a = false} f g = (λ p. (f .0 refl, g .0 p), λ x. g .1 (x .1))
-
-outside-fails : (lo hi x : ℕ) → Fails (leb lo x && leb x hi) (Outside lo hi x)
-outside-fails lo hi x =
-    Iff·trans (and-fails (le-fails lo x) (le-fails x hi)) (⊎-elim under over, λ o. elim o [ under h ↦ inl h | over h ↦ inr h ])
+-- 1
 
 -- out of range, or another test fails
 outside-or : {A : Type 0} {t : Bool} (lo hi x : ℕ) → Fails t A → Fails (leb lo x && (leb x hi && t)) (Outside lo hi x ⊎ A)
@@ -62,8 +37,6 @@ outside-or {A} {t} lo hi x g = by (leb lo x) (outside-fails lo hi x)
     by : (a : Bool) → Fails (a && leb x hi) (Outside lo hi x) → Fails (a && (leb x hi && t)) (Outside lo hi x ⊎ A)
     by true f = and-fails f g
     by false f = (λ p. inl (f .0 refl), λ o. refl)
-
--- 1
 
 module _ (f : List ℕ) where
   mark-at : (i k : ℕ) → 12 ≤ length f → i + k ≡ 12 → trailerByte f i ≡ getD f (length f - k) 0
@@ -100,20 +73,18 @@ module _ (s : Shape) where
   unfolding classed
   class-fails = outside-fails 1 4 (s .class)
 
-  pub range-fails : (spare : ℕ) → (BadClass s → ⊥) → Fails (ranged s spare) (BadRange s spare)
+  pub shape-fails : (BadClass s → ⊥) → Fails (ranged s) (BadRange s)
   unfolding ranged
-  range-fails spare o =
+  shape-fails o =
       Iff·trans
-      (outside-or 1 64 (s .states) (outside-or 1 32 (s .events) (outside-or 1 8 (s .pairs)
-      (and-fails (lt-fails (s .initial .0) (s .states)) (and-fails (eq-fails spare 0) (or-fails (eq-fails (s .class) 3) (eq-fails (s .pairs) 1))))))) (
-        ⊎-elim bad-N (⊎-elim bad-K (⊎-elim bad-m (⊎-elim bad-initial (⊎-elim byte-5 (λ p. not-one (other-class (s .class) o (p .0)) (p .1)))))),
+      (and-fails (range-fails ruleLimits (s .states) (s .events) (s .initial .0)) (and-fails (outside-fails 1 mostPairs (s .pairs))
+      (and-fails (eq-fails (s .mode) 0) (or-fails (eq-fails (s .class) 3) (eq-fails (s .pairs) 1))))) (
+        ⊎-elim bad-numbers (⊎-elim bad-m (⊎-elim byte-5 (λ p. not-one (other-class (s .class) o (p .0)) (p .1)))),
         λ b. elim b [
-          | bad-N h ↦ inl h
-          | bad-K h ↦ inr (inl h)
-          | bad-m h ↦ inr (inr (inl h))
-          | bad-initial h ↦ inr (inr (inr (inl h)))
-          | byte-5 h ↦ inr (inr (inr (inr (inl h))))
-          | not-one c h ↦ inr (inr (inr (inr (inr (λ e. ⊎-elim (λ k. omega arith) (⊎-elim (λ k. omega arith) (λ k. omega arith)) c, h)))))
+          | bad-numbers h ↦ inl h
+          | bad-m h ↦ inr (inl h)
+          | byte-5 h ↦ inr (inr (inl h))
+          | not-one c h ↦ inr (inr (inr (λ e. ⊎-elim (λ k. omega arith) (⊎-elim (λ k. omega arith) (λ k. omega arith)) c, h)))
         ],
       )
 

@@ -19,15 +19,16 @@ use Rattle.rule.specs.declared.Pair.{Pair}
 use Rattle.rule.specs.declared.Shape.{Shape}
 use Rattle.rule.specs.declared.Verdict.the-variants.{Sound}
 use Rattle.rule.proofs.ClassLaws.{well-drawn}
-use Rattle.trailer.specs.Conditions.{pairsBack, tableBack, framed, placed}
+use Rattle.trailer.specs.Layout.{pairsBack, tableBack}
+use Rattle.trailer.specs.Conditions.{framed, placed}
 use Rattle.trailer.proofs.SoundLaws.{classed-says, ranged-says, cells-in}
-use Rattle.rulefile.specs.Layout.{trailerOf, trailerIn, upTo, pairIn, pairBytes, drawingIn, pairOut, pairsOut, trailerOut, fileOf}
+use Rattle.trailer.specs.Layout.{trailerOf, trailerIn, trailerOut}
+use Rattle.rulefile.specs.Layout.{upTo, pairIn, pairBytes, drawingIn, pairOut, pairsOut, fileOf}
 use Rattle.rulefile.specs.Reading.{verdictOn, readingOf}
 use Rattle.rulefile.proofs.ListLaws.{getD-upTo, flat-ext}
-use Rattle.rulefile.proofs.PartLaws.{drop-end, part-on, part-on-back, upTo-take, flat-take, flat-at}
+use Rattle.rulefile.proofs.CutLaws.{drop-end, part-on, part-on-back, upTo-take, flat-take, flat-at}
 use Rattle.rulefile.proofs.LayoutLaws.{length-pairOut, length-pairsOut, length-trailerOut}
 use Rattle.rulefile.proofs.PartsLaws.{SoundFile}
-use Rattle.rulefile.proofs.WellLaws.{in-range}
 use Rattle.rulefile.proofs.DrawnLaws.{SoundDrawing}
 
 -- written, then read
@@ -49,7 +50,7 @@ pair-read ps m i h a b =
     rw (← drop-drop 8 (16 * i) (pairsOut ps m), e, number-read 8 (q .r) l a, number-on 8 (q .r) l, number-read 8 (q .p) (d .0) b)
 
 -- a trailer, written and read back
-trailer-read : (s : Shape) → tableBack s < 65536 → trailerOf (trailerOut s) ≡ record { shape = s; spare = 0; table = tableBack s; pairs = pairsBack s }
+trailer-read : (s : Shape) → tableBack s < 65536 → trailerOf (trailerOut s) ≡ record { shape = s; table = tableBack s; pairs = pairsBack s }
 unfolding trailerOf trailerOut
 trailer-read s h =
     let l = digits 2 (pairsBack s) ++ (72 ∷ 82 ∷ []) in
@@ -68,7 +69,7 @@ module _ (d : Drawing) (s : SoundDrawing d) where
   T = trailerOut (d .shape)
 
   well : WellDrawn d
-  well = well-drawn d (s .pairs-whole) (in-range d 0 (s .class) (s .range)) (s .passes)
+  well = well-drawn d (s .pairs-whole) (record { classed = s .class; ranged = s .range }) (s .passes)
 
   -- where they are cut
   first-cut : fileOf d ≡ d .note ++ (d .table ++ (C ++ T))
@@ -98,10 +99,10 @@ module _ (d : Drawing) (s : SoundDrawing d) where
   end-read = rw last-cut (drop-end (d .note ++ (d .table ++ C)) T 12 (length-trailerOut (d .shape)))
 
   -- what its trailer says
-  pub trailer-in : trailerIn (fileOf d) ≡ record { shape = d .shape; spare = 0; table = tableBack (d .shape); pairs = pairsBack (d .shape) }
+  pub trailer-in : trailerIn (fileOf d) ≡ record { shape = d .shape; table = tableBack (d .shape); pairs = pairsBack (d .shape) }
   trailer-in =
       let k = cells-in (s .range) in
-      let m = s .range .pairs-in in
+      let m = s .range .few-pairs in
       ap trailerOf end-read ∙ trailer-read (d .shape) (omega arith)
 
   note-read : take (length (fileOf d) - tableBack (d .shape)) (fileOf d) ≡ d .note
@@ -139,7 +140,7 @@ module _ (d : Drawing) (s : SoundDrawing d) where
       let l = length-file in
       let k = cells-in (s .range) in
       let n = s .note-in in
-      let m = s .range .pairs-in in
+      let m = s .range .few-pairs in
       let mark : (i : ℕ) → getD f (length f - 12 + i) 0 ≡ getD T i 0 = λ i. sym (getD-drop (length f - 12) f i 0) ∙ ap (λ (t : List ℕ). getD t i 0) end-read in
       let x : length f - 2 ≡ length f - 12 + 10 = omega arith in
       let y : length f - 1 ≡ length f - 12 + 11 = omega arith in
@@ -165,7 +166,7 @@ module _ (d : Drawing) (s : SoundDrawing d) where
   unfolding verdictOn firstOf
   file-sound =
       let c = classed-says (d .shape) .1 (s .class) in
-      let g = ranged-says (d .shape) 0 .1 (s .range) in
+      let g = ranged-says (d .shape) .1 (s .range) in
       rw (frame-passes, place-passes, trailer-in, c, g, drawing-read) (s .passes)
 
   -- and reads as the rule by value that the drawing is
@@ -194,11 +195,10 @@ module _ (t : List ℕ) (long : length t ≡ 12) where
   marks-back m n =
       drop-cons t 10 0 (omega arith) ∙ rw (drop-cons t 11 0 (omega arith), drop-of-length-le t {i = 12} (omega arith), m, n)
 
-  front-back : getD t 5 0 ≡ 0 → getD t 0 0 ∷ getD t 1 0 ∷ getD t 2 0 ∷ getD t 3 0 ∷ getD t 4 0 ∷ 0 ∷ drop 6 t ≡ t
-  front-back z =
-      let e : drop 5 t ≡ 0 ∷ drop 6 t = drop-cons t 5 0 (omega arith) ∙ rw z in
+  front-back : getD t 0 0 ∷ getD t 1 0 ∷ getD t 2 0 ∷ getD t 3 0 ∷ getD t 4 0 ∷ getD t 5 0 ∷ drop 6 t ≡ t
+  front-back =
       rw (
-        ← e,
+        ← drop-cons t 5 0 (omega arith),
         ← drop-cons t 4 0 (omega arith),
         ← drop-cons t 3 0 (omega arith),
         ← drop-cons t 2 0 (omega arith),
@@ -206,11 +206,11 @@ module _ (t : List ℕ) (long : length t ≡ 12) where
         ← drop-cons t 0 0 (omega arith),
       )
 
-  trailer-back : Bytes t → trailerOf t .spare ≡ 0 → trailerOf t .table ≡ tableBack (trailerOf t .shape) → trailerOf t .pairs ≡ pairsBack (trailerOf t .shape)
+  trailer-back : Bytes t → trailerOf t .table ≡ tableBack (trailerOf t .shape) → trailerOf t .pairs ≡ pairsBack (trailerOf t .shape)
       → drop 10 t ≡ 72 ∷ 82 ∷ [] → trailerOut (trailerOf t .shape) ≡ t
   unfolding trailerOf trailerOut
-  trailer-back b z x y m =
-      rw (← x, ← y, ← m, part-back 2 6 t (omega arith) b, part-back 2 8 t (omega arith) b, part-on 2 8 t, part-on 2 6 t) (front-back z)
+  trailer-back b x y m =
+      rw (← x, ← y, ← m, part-back 2 6 t (omega arith) b, part-back 2 8 t (omega arith) b, part-on 2 8 t, part-on 2 6 t) front-back
 
 -- a sound file of bytes is the file of its drawing
 module _ (f : List ℕ) (b : Bytes f) (s : SoundFile f) where
@@ -224,7 +224,7 @@ module _ (f : List ℕ) (b : Bytes f) (s : SoundFile f) where
       let long : length t ≡ 12 = rw length-drop (omega arith) in
       let x : length f - 12 + 10 ≡ length f - 2 = omega arith in
       let y : length f - 12 + 11 ≡ length f - 1 = omega arith in
-      trailer-back t long (bytes-drop (length f - 12) f b) (s .ranged .spare-none) (s .placed .table-is) (s .placed .pairs-is)
+      trailer-back t long (bytes-drop (length f - 12) f b) (s .placed .table-is) (s .placed .pairs-is)
       (marks-back t long (rw (getD-drop, x) (s .framed .first-mark)) (rw (getD-drop, y) (s .framed .last-mark)))
 
   all-pairs-back : pairsOut (upTo (pairIn (pairBytes S f)) (S .pairs)) (S .pairs) ≡ pairBytes S f

@@ -7,14 +7,16 @@ use native.Mathlib.Omega.{arith}
 use lib.ListN.{length, take, drop, length-drop}
 use lib.Seq.{length-take-le}
 use Rattle.rule.specs.Drawing.{noPair, padded}
+use Rattle.rule.specs.Range.{Classed, Ranged}
 use Rattle.rule.specs.Refusals.{firstOf, conditions}
 use Rattle.rule.proofs.RefusalLaws.{first-sound}
 use Rattle.rule.specs.declared.Refusal.the-variants.{Frame, Class, Range, Distance}
 use Rattle.rule.specs.declared.Verdict.{Verdict}
 use Rattle.rule.specs.declared.Verdict.the-variants.{Sound, Refused}
-use Rattle.trailer.specs.Conditions.{tableBack, pairsBack}
-use Rattle.trailer.proofs.SoundLaws.{Framed, framed-says, Classed, classed-says, Ranged, ranged-says, Placed, placed-says, passed}
-use Rattle.rulefile.specs.Layout.{trailerIn, drawingIn}
+use Rattle.trailer.specs.Layout.{tableBack, pairsBack}
+use Rattle.trailer.proofs.SoundLaws.{Framed, framed-says, classed-says, ranged-says, Placed, placed-says, passed}
+use Rattle.trailer.specs.Layout.{trailerIn}
+use Rattle.rulefile.specs.Layout.{drawingIn}
 use Rattle.rulefile.specs.Reading.{verdictOn, partsBy, partsOf}
 use Rattle.rulefile.specs.declared.Contents.{Contents}
 use Rattle.rulefile.proofs.ListLaws.{length-upTo, take-padded}
@@ -23,7 +25,7 @@ use Rattle.rulefile.proofs.ListLaws.{length-upTo, take-padded}
 pub record SoundFile (f : List ℕ) : Type 0 where
   pub framed : Framed f
   pub classed : Classed (trailerIn f .shape)
-  pub ranged : Ranged (trailerIn f .shape) (trailerIn f .spare)
+  pub ranged : Ranged (trailerIn f .shape)
   pub placed : Placed (trailerIn f) (length f)
   pub sound : firstOf (conditions (drawingIn f)) ≡ Sound
 
@@ -37,7 +39,7 @@ sound-file f e =
     record {
       framed = passed Frame (framed-says f) .0 (a .0);
       classed = passed Class (classed-says (trailerIn f .shape)) .0 (b .0);
-      ranged = passed Range (ranged-says (trailerIn f .shape) (trailerIn f .spare)) .0 (c .0);
+      ranged = passed Range (ranged-says (trailerIn f .shape)) .0 (c .0);
       placed = passed Distance (placed-says (trailerIn f) (length f)) .0 (d .0);
       sound = d .1;
     }
@@ -67,7 +69,7 @@ module _ (f : List ℕ) (s : SoundFile f) where
 pub record SoundParts (f : List ℕ) (p : Contents) : Type 0 where
   pub drawn : p .shape ≡ drawingIn f .shape
   pub classed : Classed (p .shape)
-  pub ranged : Ranged (p .shape) 0
+  pub ranged : Ranged (p .shape)
   -- the note, the table, the pairs and the trailer stand one after the other
   pub note-in : p .start ≤ 1024
   pub table-ends : p .start + p .shape .states * p .shape .events ≡ p .end
@@ -106,7 +108,7 @@ parts-all f s =
     record {
       drawn = refl;
       classed = s .classed;
-      ranged = rw (s .ranged .spare-none) at (s .ranged);
+      ranged = s .ranged;
       note-in = s .placed .note-in;
       table-ends = omega arith;
       pairs-end = omega arith;

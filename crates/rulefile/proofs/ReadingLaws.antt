@@ -17,10 +17,12 @@ use Rattle.rule.specs.declared.Refusal.{Refusal}
 use Rattle.rule.specs.declared.Refusal.the-variants.{Frame}
 use Rattle.rule.specs.declared.Verdict.{Verdict}
 use Rattle.rule.specs.declared.Verdict.the-variants.{Sound, Refused}
-use Rattle.trailer.specs.Conditions.{framed, frame, tableBack, headConditions}
+use Rattle.trailer.specs.Layout.{tableBack}
+use Rattle.trailer.specs.Conditions.{framed, frame, headConditions}
 use Rattle.trailer.specs.declared.Trailer.{Trailer}
 use Rattle.trailer.proofs.SoundLaws.{framed-says, Headed, Placed, headed-sound, cells-in}
-use Rattle.rulefile.specs.Layout.{trailerOf, trailerIn, pairIn, pairBytes, upTo, drawingIn}
+use Rattle.trailer.specs.Layout.{trailerOf, trailerIn}
+use Rattle.rulefile.specs.Layout.{pairIn, pairBytes, upTo, drawingIn}
 use Rattle.rulefile.specs.Reading.{verdictOn, partsBy, partsOf, readingBy, readingOf}
 use Rattle.rulefile.specs.declared.Contents.{Contents}
 use Rattle.rulefile.specs.declared.Reading.{Reading}
@@ -141,7 +143,7 @@ module _ (f : List ℕ) {ok : Bool} (is : ok ≡ framed f) (right : not ok ≡ f
     pairs-before-trailer = omega (arith, distances .trailer-in)
 
     pub pairs-few : t .shape .pairs ≤ 8
-    pairs-few = headed .ranged .pairs-in
+    pairs-few = headed .ranged .few-pairs
 
     pub pairs-whole : length (take (length f - 12 - (length f - t .pairs)) (drop (length f - t .pairs) f)) ≡ 16 * t .shape .pairs
     pairs-whole = pairs-long f t (headed .placed)
@@ -161,7 +163,7 @@ module _ (f : List ℕ) {ok : Bool} (is : ok ≡ framed f) (right : not ok ≡ f
       body-told =
           let g = headed .ranged in
           checked
-          ∙ in-range (t .shape) (tableBy f t) ps (g .states-in) (g .some-pairs) (g .pairs-in)
+          ∙ in-range (t .shape) (tableBy f t) ps (g .numbers .few-states) (g .some-pairs) (g .few-pairs)
           ∙ rw cut-off (ap firstOf body-conditions)
           ∙ sym past-head
 

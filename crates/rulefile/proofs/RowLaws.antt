@@ -9,6 +9,7 @@ use mathlib.Core.Logic.{_↔_, Iff·trans}
 use lib.ListN.{length}
 use Rattle.rule.specs.Reach.{Closed}
 use Rattle.rule.specs.Drawing.{Drawing, states, events, count, initial, stateNo, eventNo}
+use Rattle.rule.specs.Range.{over, bad-N, bad-initial}
 use Rattle.rule.specs.Refusals.{refuseIf, firstOf, entries, members, excess, moves, stopped, empties, conditions, conditionsOrder}
 use Rattle.rule.specs.Given.{Table, FirstCell, LowestPair, BadEntry, BadMember, TooMuch, Forbidden, StopsBy, BothEmpty}
 use Rattle.rule.specs.declared.Refusal.{Refusal}
@@ -16,16 +17,17 @@ use Rattle.rule.specs.declared.Refusal.the-variants.{Class, Range, Distance, En
 use Rattle.rule.specs.declared.Verdict.{Verdict}
 use Rattle.rule.specs.declared.Verdict.the-variants.{Refused}
 use Rattle.rule.proofs.SetLaws.{below-or}
+use Rattle.rule.proofs.BoolLaws.{Fails, fails-say}
 use Rattle.rule.proofs.GivenLaws.{entries-sound, entries-refused, members-refused, excess-refused, moves-refused, stopped-refused, empties-refused}
 use Rattle.rule.proofs.TableLaws.{Within, Decides, Answers, decided, end, then}
 use Rattle.trailer.specs.Conditions.{class, range}
-use Rattle.rulefile.specs.Given.{over, BadClass, BadRange, bad-N, bad-m, bad-initial, drawingOrder, DrawingRow, at-2, at-3, at-4, at-5, at-6}
+use Rattle.rulefile.specs.Given.{BadClass, BadRange, bad-numbers, bad-m, drawingOrder, DrawingRow, at-2, at-3, at-4, at-5, at-6}
 use Rattle.rulefile.specs.Given.{at-7, at-8, at-9, at-10}
-use Rattle.rulefile.proofs.FaultLaws.{Fails, fails-say, passed, class-fails, range-fails}
+use Rattle.rulefile.proofs.FaultLaws.{passed, class-fails, shape-fails}
 
-module _ (d : Drawing) (spare : ℕ) (far : Type 0) where
+module _ (d : Drawing) (far : Type 0) where
   abbrev T : Table
-  T = DrawingRow d spare far
+  T = DrawingRow d far
 
   pub drawing-within : Within drawingOrder T
   drawing-within n x (at-2 a) = record { number = refl; listed = refl }
@@ -48,10 +50,10 @@ module _ (d : Drawing) (spare : ℕ) (far : Type 0) where
       says : (y : Refusal) → T 2 y → (Class ≡ y) × (BadClass (d .shape))
       says y (at-2 a) = (refl, a)
 
-  row-3 : {t : Bool} → Fails t (BadRange (d .shape) spare) → Decides T 3 (refuseIf (not t) Range)
+  row-3 : {t : Bool} → Fails t (BadRange (d .shape)) → Decides T 3 (refuseIf (not t) Range)
   row-3 f = decided T 3 (fails-say f) at-3 says
     where
-      says : (y : Refusal) → T 3 y → (Range ≡ y) × (BadRange (d .shape) spare)
+      says : (y : Refusal) → T 3 y → (Range ≡ y) × (BadRange (d .shape))
       says y (at-3 a) = (refl, a)
 
   row-4 : {t : Bool} → Fails t far → Decides T 4 (refuseIf (not t) Distance)
@@ -109,15 +111,15 @@ module _ (d : Drawing) (spare : ℕ) (far : Type 0) where
 
   -- 2 to 10
   pub shape-rows : {t : Bool} → Fails t far → (count d ≤ 8 → length (d .pairs) ≡ count d)
-      → Answers T drawingOrder (firstOf (class (d .shape) ∷ range (d .shape) spare ∷ refuseIf (not t) Distance ∷ conditions d))
+      → Answers T drawingOrder (firstOf (class (d .shape) ∷ range (d .shape) ∷ refuseIf (not t) Distance ∷ conditions d))
   unfolding firstOf
   shape-rows {t} four whole =
       then (class (d .shape)) (row-2 (class-fails (d .shape))) (λ two.
-      let of-range = range-fails (d .shape) spare (passed Class (class-fails (d .shape)) two) in
-      then (range (d .shape) spare) (row-3 of-range) (λ three.
+      let of-range = shape-fails (d .shape) (passed Class (class-fails (d .shape)) two) in
+      then (range (d .shape)) (row-3 of-range) (λ three.
       let in-range = passed Range of-range three in
       then (refuseIf (not t) Distance) (row-4 four) (λ _.
       drawing-rows
       (whole (below-or 8 (count d) (λ h. absurd (in-range (bad-m (over h)))) (λ h. h)))
-      (below-or 64 (states d) (λ h. absurd (in-range (bad-N (over h)))) (λ h. h))
-      (below-or (initial d) (states d) (λ h. h) (λ h. absurd (in-range (bad-initial h)))))))
+      (below-or 64 (states d) (λ h. absurd (in-range (bad-numbers (bad-N (over h))))) (λ h. h))
+      (below-or (initial d) (states d) (λ h. h) (λ h. absurd (in-range (bad-numbers (bad-initial h))))))))

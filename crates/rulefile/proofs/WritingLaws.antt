@@ -6,15 +6,17 @@ use Prim.Native.Nat.{ℕ, _+_, _-_, _*_, _≤_, _<_}
 use native.Mathlib.Omega.{arith}
 use borrow.Author.Tests.{le-leb, lt-leb}
 use lib.Dec.{leb}
-use lib.ListN.{length, take, drop, length-append}
+use lib.ListN.{length, take, length-append}
 use lib.Seq.{length-take-le}
 use borrow.Rule.Slice.PartMut.{putMid}
 use Rattle.octets.specs.Copies.{copied}
 use Rattle.octets.proofs.CopyLaws.{copied-whole}
 use Rattle.octets.proofs.ListLaws.{part-more}
 use Rattle.rule.specs.Drawing.{drawn}
+use Rattle.rule.specs.Range.{Classed, Ranged}
 use Rattle.rule.specs.Refusals.{firstOf, conditions}
 use Rattle.rule.proofs.BoolLaws.{le-says}
+use Rattle.rule.proofs.PutLaws.{keeps-refused, keeps-no-room, keeps-done}
 use Rattle.rule.proofs.RefusalLaws.{append-hit, append-more, first-sound}
 use Rattle.rule.specs.declared.Pair.{Pair}
 use Rattle.rule.specs.declared.Rule.{Rule}
@@ -24,30 +26,17 @@ use Rattle.rule.specs.declared.Refusal.the-variants.{Class, Range, Distance, Ro
 use Rattle.rule.specs.declared.Verdict.{Verdict}
 use Rattle.rule.specs.declared.Verdict.the-variants.{Sound, Refused as Unsound}
 use Rattle.trailer.proofs.HeadLaws.{third-refused, third-sound}
-use Rattle.trailer.proofs.SoundLaws.{Classed, classed-says, Ranged, ranged-says, passed, cells-in}
-use Rattle.rulefile.specs.Layout.{pairsOut, trailerOut, fileOf}
-use Rattle.rulefile.specs.Writing.{noted, measureConditions, verdictOf, PutPromise}
-use Rattle.rulefile.specs.declared.Written.{Written}
-use Rattle.rulefile.specs.declared.Written.the-variants.{Done, Refused}
+use Rattle.trailer.proofs.SoundLaws.{classed-says, ranged-says, passed, cells-in}
+use Rattle.trailer.specs.Layout.{trailerOut}
+use Rattle.rulefile.specs.Layout.{pairsOut, fileOf}
+use Rattle.rule.specs.Putting.{PutPromise}
+use Rattle.rulefile.specs.Writing.{noted, measureConditions, verdictOf}
+use Rattle.rule.specs.declared.Written.{Written}
+use Rattle.rule.specs.declared.Written.the-variants.{Done, Refused}
 use Rattle.checks.specs.Checked.{checkedOf}
 use Rattle.checks.proofs.CheckLaws.{conditions-note}
 use Rattle.checks.proofs.HeldLaws.{in-range}
 use Rattle.rulefile.proofs.LayoutLaws.{length-pairsOut, length-trailerOut, pairsOut-take}
-
--- putting bytes into an output: refused as the verdict is, refused for room, or done
-
-module _ {v : Verdict} {bytes out : List ℕ} where
-  pub put-refused : {r : Refusal} → v ≡ Unsound r → PutPromise v bytes out (Refused r) out
-  put-refused e = record { answer = rw e; output = rw e }
-
-  module _ (e : v ≡ Sound) where
-    pub put-no-room : length out < length bytes → PutPromise v bytes out (Refused Room) out
-    put-no-room h = record { answer = rw (e, lt-leb (length bytes) (length out) h); output = rw (e, lt-leb (length bytes) (length out) h) }
-
-    pub put-done : {n : ℕ} {out′ : List ℕ} → n ≡ length bytes → n ≤ length out → out′ ≡ bytes ++ drop n out → PutPromise v bytes out (Done n) out′
-    put-done q h o =
-        let fits = le-leb (length bytes) (length out) (rw q at h) in
-        record { answer = rw (e, fits, q); output = rw (e, fits, ← q) o }
 
 -- 4 of a rule by value, after two conditions of which the first refusal is v
 
@@ -62,7 +51,7 @@ module _ (a b : Verdict) {v : Verdict} (is : v ≡ firstOf (a ∷ b ∷ [])) (e 
 
 pub record Measured (s : Shape) (length : ℕ) : Type 0 where
   pub classed : Classed s
-  pub ranged : Ranged s 0
+  pub ranged : Ranged s
   pub note-in : length ≤ 1024
 
 pub measured-sound : (s : Shape) (length : ℕ) → firstOf (measureConditions s length) ≡ Sound → Measured s length
@@ -72,7 +61,7 @@ measured-sound s length e =
     let c = first-sound _ _ .0 (b .1) in
     record {
       classed = passed Class (classed-says s) .0 (a .0);
-      ranged = passed Range (ranged-says s 0) .0 (b .0);
+      ranged = passed Range (ranged-says s) .0 (b .0);
       note-in = passed Distance (le-says length 1024) .0 (c .0);
     }
 
@@ -93,7 +82,7 @@ module _ (note table : List ℕ) (s : Shape) (ps : List Pair) where
   size-is = sym (length-append note rest ∙ length-rest)
 
   pub file-no-room : (out : List ℕ) → length out < size → PutPromise Sound (note ++ rest) out (Refused Room) out
-  file-no-room out h = put-no-room refl (rw size-is at h)
+  file-no-room out h = keeps-no-room refl (rw size-is at h)
 
   -- the note was copied to the front, and the rest was filled
   pub file-put : (out : List ℕ) {l last : List ℕ} → size ≤ length out → l ≡ copied note out → last ≡ rest
@@ -101,7 +90,7 @@ module _ (note table : List ℕ) (s : Shape) (ps : List Pair) where
   file-put out h is full =
       let k : length rest ≡ size - length note = omega (arith, length-rest) in
       let m : length note + (size - length note) ≡ size = omega arith in
-      put-done refl size-is h (rw (is ∙ copied-whole note out (omega arith), full) (part-more note rest out (length note) (size - length note) refl k ∙ rw m))
+      keeps-done refl size-is h (rw (is ∙ copied-whole note out (omega arith), full) (part-more note rest out (length note) (size - length note) refl k ∙ rw m))
 
 -- a rule by value
 
@@ -110,14 +99,14 @@ module _ (r : Rule) {v : Verdict} (head : v ≡ firstOf (measureConditions (r .s
   pub head-refused : (out : List ℕ) {x : Refusal} → v ≡ Unsound x → PutPromise (verdictOf r) (fileOf (drawn r)) out (Refused x) out
   unfolding verdictOf
   head-refused out {x} e =
-      put-refused (append-hit (measureConditions (r .shape) (r .length)) (conditions (drawn r)) x (sym head ∙ e))
+      keeps-refused (append-hit (measureConditions (r .shape) (r .length)) (conditions (drawn r)) x (sym head ∙ e))
 
   module _ (sound : v ≡ Sound) where
     measured : Measured (r .shape) (r .length)
     measured = measured-sound (r .shape) (r .length) (sym head ∙ sound)
 
     pub pairs-few : r .shape .pairs ≤ 8
-    pairs-few = measured .ranged .pairs-in
+    pairs-few = measured .ranged .few-pairs
 
     -- the note and the table that are used lie in their arrays
     pub note-in-array : length (r .note) ≡ 1024 → r .length ≤ length (r .note)
@@ -145,12 +134,12 @@ module _ (r : Rule) {v : Verdict} (head : v ≡ firstOf (measureConditions (r .s
       told =
           let g = measured .ranged in
           checked
-          ∙ in-range (r .shape) (take (r .shape .states * r .shape .events) (r .table)) (r .pairs) (g .states-in) (g .some-pairs) (g .pairs-in)
+          ∙ in-range (r .shape) (take (r .shape .states * r .shape .events) (r .table)) (r .pairs) (g .numbers .few-states) (g .some-pairs) (g .few-pairs)
           ∙ ap firstOf (sym (conditions-note (r .shape) (take (r .length) (r .note)) _ _))
           ∙ sym (append-more (measureConditions (r .shape) (r .length)) (conditions (drawn r)) (sym head ∙ sound))
 
       pub body-refused : (out : List ℕ) {x : Refusal} → w ≡ Unsound x → PutPromise (verdictOf r) (fileOf (drawn r)) out (Refused x) out
-      body-refused out e = put-refused (sym told ∙ e)
+      body-refused out e = keeps-refused (sym told ∙ e)
 
       -- the file by its parts is that of the rule
       pub rule-put : {out : List ℕ} {a : Written} {out′ : List ℕ} → w ≡ Sound

@@ -1,35 +1,33 @@
 -- The paper's table "Refusal numbers", for a call on a rule file or a rule: the rows 1 to 4 in plain words, and then the tables.
 -- Assumes nothing.
-use Prim.Native.Nat.{ℕ, _-_, _≤_, _<_}
+use Prim.Native.Nat.{ℕ, _-_, _<_}
 use mathlib.Core.Path.{_≡_}
-use mathlib.Core.List.{List, [], _∷_, _++_}
+use mathlib.Core.List.{List, _∷_, _++_}
 use mathlib.Core.Logic.{_⊎_}
 use lib.ListN.{length, getD, drop}
 use Rattle.rule.specs.Drawing.{Drawing, initial, drawn}
+use Rattle.rule.specs.Range.{ruleLimits, mostPairs, longestNote, Outside, OutOfRange}
 use Rattle.rule.specs.Refusals.{conditionsOrder}
-use Rattle.rule.specs.Given.{Table, After, FirstCell, LowestPair, BadEntry, BadMember, TooMuch, Forbidden, StopsBy, BothEmpty}
+use Rattle.rule.specs.Putting.{Put, putOrder}
+use Rattle.rule.specs.Given.{Table, FirstCell, LowestPair, BadEntry, BadMember, TooMuch, Forbidden, StopsBy, BothEmpty}
 use Rattle.rule.specs.declared.Rule.{Rule}
 use Rattle.rule.specs.declared.StateNo.{StateNo}
 use Rattle.rule.specs.declared.EventNo.{EventNo}
 use Rattle.rule.specs.declared.Shape.{Shape}
 use Rattle.rule.specs.declared.Refusal.{Refusal}
-use Rattle.rule.specs.declared.Refusal.the-variants.{Frame, Class, Range, Distance, Entry, Member, Excess, Move, Stopping, Empty, Room}
-use Rattle.trailer.specs.Conditions.{tableBack, pairsBack, headOrder}
+use Rattle.rule.specs.declared.Refusal.the-variants.{Frame, Class, Range, Distance, Entry, Member, Excess, Move, Stopping, Empty}
+use Rattle.trailer.specs.Layout.{tableBack, pairsBack, trailerSize, longestFile, trailerIn}
+use Rattle.trailer.specs.Conditions.{headOrder}
 use Rattle.trailer.specs.declared.Trailer.{Trailer}
-use Rattle.rulefile.specs.Layout.{trailerIn, drawingIn, fileOf}
-
--- x is not one of lo to hi
-pub data Outside (lo hi x : ℕ) : Type 0 where
-  under : x < lo → Outside lo hi x
-  over : hi < x → Outside lo hi x
+use Rattle.rulefile.specs.Layout.{drawingIn, fileOf}
 
 -- byte i of a file's trailer
 abbrev pub trailerByte : List ℕ → ℕ → ℕ
-trailerByte f i = getD (drop (length f - 12) f) i 0
+trailerByte f i = getD (drop (length f - trailerSize) f) i 0
 
 -- 1: under 12 or over 3,212 bytes, or bytes 10-11 wrong
 pub data BadFrame (f : List ℕ) : Type 0 where
-  bad-size : Outside 12 3212 (length f) → BadFrame f
+  bad-size : Outside trailerSize longestFile (length f) → BadFrame f
   byte-10 : (trailerByte f 10 ≡ 72 → ⊥) → BadFrame f
   byte-11 : (trailerByte f 11 ≡ 82 → ⊥) → BadFrame f
 
@@ -38,17 +36,15 @@ abbrev pub BadClass : Shape → Type 0
 BadClass s = Outside 1 4 (s .class)
 
 -- 3: N, K, m out of range, initial state >= N, byte 5 not 0, or m not 1 in class 1, 2, 4
-pub data BadRange (s : Shape) (spare : ℕ) : Type 0 where
-  bad-N : Outside 1 64 (s .states) → BadRange s spare
-  bad-K : Outside 1 32 (s .events) → BadRange s spare
-  bad-m : Outside 1 8 (s .pairs) → BadRange s spare
-  bad-initial : s .states ≤ s .initial .0 → BadRange s spare
-  byte-5 : (spare ≡ 0 → ⊥) → BadRange s spare
-  not-one : (s .class ≡ 1) ⊎ (s .class ≡ 2) ⊎ (s .class ≡ 4) → (s .pairs ≡ 1 → ⊥) → BadRange s spare
+pub data BadRange (s : Shape) : Type 0 where
+  bad-numbers : OutOfRange ruleLimits (s .states) (s .events) (s .initial .0) → BadRange s
+  bad-m : Outside 1 mostPairs (s .pairs) → BadRange s
+  byte-5 : (s .mode ≡ 0 → ⊥) → BadRange s
+  not-one : (s .class ≡ 1) ⊎ (s .class ≡ 2) ⊎ (s .class ≡ 4) → (s .pairs ≡ 1 → ⊥) → BadRange s
 
 -- 4: a back distance is wrong, the file is shorter than the table's distance, or the note is over 1,024
 abbrev pub LongNote : ℕ → Type 0
-LongNote length = 1024 < length
+LongNote length = longestNote < length
 
 pub data BadDistance (t : Trailer) (size : ℕ) : Type 0 where
   to-table : (t .table ≡ tableBack (t .shape) → ⊥) → BadDistance t size
@@ -60,17 +56,17 @@ pub data BadDistance (t : Trailer) (size : ℕ) : Type 0 where
 abbrev pub drawingOrder : List ℕ
 drawingOrder = headOrder ++ conditionsOrder
 
--- the table's rows on the rule that is drawn, byte 5, and what row 4 says in the call: number, refusal with its places A and B, when
-pub data DrawingRow (d : Drawing) (spare : ℕ) (bad-distance : Type 0) : ℕ → Refusal → Type 0 where
-  at-2 : BadClass (d .shape) → DrawingRow d spare bad-distance 2 Class
-  at-3 : BadRange (d .shape) spare → DrawingRow d spare bad-distance 3 Range
-  at-4 : bad-distance → DrawingRow d spare bad-distance 4 Distance
-  at-5 : {s : StateNo} {e : EventNo} → FirstCell d (BadEntry d) (s .0) (e .0) → DrawingRow d spare bad-distance 5 (Entry s e)
-  at-6 : {i side : ℕ} → BadMember d i side → DrawingRow d spare bad-distance 6 (Member i side)
-  at-7 : TooMuch d → DrawingRow d spare bad-distance 7 Excess
-  at-8 : {s : StateNo} {e : EventNo} → FirstCell d (Forbidden d) (s .0) (e .0) → DrawingRow d spare bad-distance 8 (Move s e)
-  at-9 : {i : ℕ} → LowestPair d (StopsBy d (initial d)) i → DrawingRow d spare bad-distance 9 (Stopping i)
-  at-10 : {i : ℕ} → LowestPair d (BothEmpty d) i → DrawingRow d spare bad-distance 10 (Empty i)
+-- the table's rows on the rule that is drawn, and what row 4 says in the call: number, refusal with its places A and B, when
+pub data DrawingRow (d : Drawing) (bad-distance : Type 0) : ℕ → Refusal → Type 0 where
+  at-2 : BadClass (d .shape) → DrawingRow d bad-distance 2 Class
+  at-3 : BadRange (d .shape) → DrawingRow d bad-distance 3 Range
+  at-4 : bad-distance → DrawingRow d bad-distance 4 Distance
+  at-5 : {s : StateNo} {e : EventNo} → FirstCell d (BadEntry d) (s .0) (e .0) → DrawingRow d bad-distance 5 (Entry s e)
+  at-6 : {i side : ℕ} → BadMember d i side → DrawingRow d bad-distance 6 (Member i side)
+  at-7 : TooMuch d → DrawingRow d bad-distance 7 Excess
+  at-8 : {s : StateNo} {e : EventNo} → FirstCell d (Forbidden d) (s .0) (e .0) → DrawingRow d bad-distance 8 (Move s e)
+  at-9 : {i : ℕ} → LowestPair d (StopsBy d (initial d)) i → DrawingRow d bad-distance 9 (Stopping i)
+  at-10 : {i : ℕ} → LowestPair d (BothEmpty d) i → DrawingRow d bad-distance 10 (Empty i)
 
 -- reading gives 1 to 10
 abbrev pub readingOrder : List ℕ
@@ -78,18 +74,11 @@ readingOrder = 1 ∷ drawingOrder
 
 pub data Reading (f : List ℕ) : ℕ → Refusal → Type 0 where
   at-1 : BadFrame f → Reading f 1 Frame
-  drawing : {n : ℕ} {x : Refusal} → DrawingRow (drawingIn f) (trailerIn f .spare) (BadDistance (trailerIn f) (length f)) n x → Reading f n x
-
--- bytes of this size that are put into an output give 16 last: the output has too little room
-abbrev pub Put : Table → (size room : ℕ) → Table
-Put T size room = After T 16 Room (room < size)
-
-abbrev pub putOrder : List ℕ → List ℕ
-putOrder order = order ++ (16 ∷ [])
+  drawing : {n : ℕ} {x : Refusal} → DrawingRow (drawingIn f) (BadDistance (trailerIn f) (length f)) n x → Reading f n x
 
 -- writing a rule gives 2, 3, 4 for the note only, 5 to 10, then 16
 abbrev pub writingOrder : List ℕ
 writingOrder = putOrder drawingOrder
 
 abbrev pub Writing : Rule → ℕ → Table
-Writing r room = Put (DrawingRow (drawn r) 0 (LongNote (r .length))) (length (fileOf (drawn r))) room
+Writing r room = Put (DrawingRow (drawn r) (LongNote (r .length))) (length (fileOf (drawn r))) room

@@ -5,7 +5,8 @@ ghost use Prim.Native.Nat.{_*_, _≤_};
 ghost use lib.ListN.{length};
 ghost use Rattle.rule.specs.Drawing.{noPair, padded};
 ghost use Rattle.rule.specs.declared.Verdict.the-variants.{Refused};
-ghost use Rattle.rulefile.specs.Layout.{trailerOf, pairIn, upTo};
+ghost use Rattle.trailer.specs.Layout.{trailerOf};
+ghost use Rattle.rulefile.specs.Layout.{pairIn, upTo};
 ghost use Rattle.rulefile.specs.Reading.{partsBy};
 use crate::Contents;
 use rule::Pair;
@@ -29,8 +30,8 @@ pub(crate) fn trailer_of(bytes: &[u8]) -> Trailer
             events: bytes[2],
             pairs: bytes[3],
             initial: StateNo(bytes[4]),
+            mode: bytes[5],
         },
-        spare: bytes[5],
         table,
         pairs,
     }
@@ -66,6 +67,7 @@ pub(crate) fn refused(refusal: Refusal) -> Contents
             events: 0,
             pairs: 0,
             initial: StateNo(0),
+            mode: 0,
         },
         start: 0,
         end: 0,

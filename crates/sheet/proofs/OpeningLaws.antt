@@ -3,93 +3,45 @@
 use Prim.Native.Nat.{ℕ, _+_, _*_, _≤_, _<_}
 use native.Mathlib.Omega.{arith}
 use mathlib.Core.Path.{_≡_, refl, sym, _∙_}
-use mathlib.Core.Bool.{Bool, true, false, cond, not, _&&_, and-false}
+use mathlib.Core.Bool.{Bool, true, false, cond, not}
 use mathlib.Core.List.{List}
-use mathlib.Core.Logic.{_↔_}
+use mathlib.Core.Logic.{inl, inr, ⊎-elim, _↔_, Iff·trans}
 use lib.Arith.{digits-lt}
-use lib.Dec.{leb, eqb}
 use lib.ListN.{length}
-use borrow.Author.Tests.{lt-leb, le-ltb, ne-eqb, leb-false, ltb-false, eqb-false, not-true, not-false}
+use borrow.Author.Tests.{not-true, not-false}
 use Rattle.rule.specs.Reach.{placeOf}
-use Rattle.rule.proofs.BoolLaws.{Says, and-says, eq-says, le-says, lt-says, in-words, not-says}
-use Rattle.sheet.specs.Given.{BadSheet, short, unmarked, no-states, many-states, no-events, many-events, no-initial, wrong-distance, wrong-length, GoodSheet}
-use Rattle.sheet.specs.Opening.{back, headIn, wholeSize, inRange, opens, openedOf}
+use Rattle.rule.specs.Range.{ruleLimits, inRange, InRange}
+use Rattle.rule.proofs.BoolLaws.{Says, and-says, eq-says, le-says, in-words, Fails, fails-say, le-fails, eq-fails, and-fails}
+use Rattle.rule.proofs.RangeLaws.{range-says, range-fails}
+use Rattle.sheet.specs.Given.{BadSheet, short, unmarked, out-of-range, wrong-distance, wrong-length, GoodSheet}
+use Rattle.sheet.specs.Layout.{back, headIn, wholeSize}
+use Rattle.sheet.specs.Opening.{opens, openedOf}
 use Rattle.sheet.specs.declared.Head.{Head}
 use Rattle.sheet.specs.declared.Opened.the-variants.{Sheet, Refused}
-
--- what the numbers of a sheet in range are
-pub record Ranged (n k initial : ℕ) : Type 0 where
-  pub some-states : 1 ≤ n
-  pub few-states : n ≤ 64
-  pub some-events : 1 ≤ k
-  pub few-events : k ≤ 32
-  pub initial-in : initial < n
-
-range-says : (n k initial : ℕ) → Says (inRange n k initial) (Ranged n k initial)
-unfolding inRange
-range-says n k initial =
-    in-words (and-says (le-says _ _) (and-says (le-says _ _) (and-says (le-says _ _) (and-says (le-says _ _) (lt-says _ _)))))
-    (λ p. record { some-states = p .0; few-states = p .1 .0; some-events = p .1 .1 .0; few-events = p .1 .1 .1 .0; initial-in = p .1 .1 .1 .1 })
-    (λ r. (r .some-states, (r .few-states, (r .some-events, (r .few-events, r .initial-in)))))
 
 -- a sheet opens exactly when it is good
 good-says : (l : List ℕ) → Says (opens l) (GoodSheet l)
 unfolding opens
 good-says l =
-    in-words (and-says (le-says _ _) (and-says (eq-says _ _) (and-says (range-says _ _ _) (and-says (eq-says _ _) (eq-says _ _)))))
-    (λ p.
-    let r = p .1 .1 .0 in
-    record {
-      long = p .0;
-      marked = p .1 .0;
-      some-states = r .some-states;
-      few-states = r .few-states;
-      some-events = r .some-events;
-      few-events = r .few-events;
-      initial-in = r .initial-in;
-      distance = p .1 .1 .1 .0;
-      size = p .1 .1 .1 .1;
-    })
-    (λ g.
-    let r : Ranged (back l 6) (back l 5) (back l 4)
-    = record { some-states = g .some-states; few-states = g .few-states; some-events = g .some-events; few-events = g .few-events; initial-in = g .initial-in } in
-    (g .long, (g .marked, (r, (g .distance, g .size)))))
+    in-words (and-says (le-says _ _) (and-says (eq-says _ _) (and-says (range-says ruleLimits _ _ _) (and-says (eq-says _ _) (eq-says _ _)))))
+    (λ p. record { long = p .0; marked = p .1 .0; in-range = p .1 .1 .0; distance = p .1 .1 .1 .0; size = p .1 .1 .1 .1 })
+    (λ g. (g .long, (g .marked, (g .in-range, (g .distance, g .size)))))
 
--- a bad sheet does not open
-bad-shut : {l : List ℕ} → BadSheet l → opens l ≡ false
-unfolding opens inRange
-bad-shut (short h) = simp (lt-leb _ _ h)
-bad-shut (unmarked h) = simp (ne-eqb _ _ h, and-false)
-bad-shut (no-states h) = simp (lt-leb _ _ h, and-false)
-bad-shut (many-states h) = simp (lt-leb _ _ h, and-false)
-bad-shut (no-events h) = simp (lt-leb _ _ h, and-false)
-bad-shut (many-events h) = simp (lt-leb _ _ h, and-false)
-bad-shut (no-initial h) = simp (le-ltb _ _ h, and-false)
-bad-shut (wrong-distance h) = simp (ne-eqb _ _ h, and-false)
-bad-shut (wrong-length h) = simp (ne-eqb _ _ h, and-false)
-
--- a sheet that does not open is bad: one of its tests fails
-either : {A : Type 0} (a b : Bool) → a && b ≡ false → (a ≡ false → A) → (b ≡ false → A) → A
-either true b h f g = g h
-either false b h f g = f refl
-
-range-bad : (l : List ℕ) → inRange (back l 6) (back l 5) (back l 4) ≡ false → BadSheet l
-unfolding inRange
-range-bad l h =
-    either (leb 1 (back l 6)) _ h (λ a. no-states (leb-false _ _ a)) (λ h.
-    either (leb (back l 6) 64) _ h (λ a. many-states (leb-false _ _ a)) (λ h.
-    either (leb 1 (back l 5)) _ h (λ a. no-events (leb-false _ _ a)) (λ h.
-    either (leb (back l 5) 32) _ h (λ a. many-events (leb-false _ _ a)) (λ a.
-    no-initial (ltb-false _ _ a)))))
-
-shut-bad : (l : List ℕ) → opens l ≡ false → BadSheet l
+-- and does not open exactly when it is bad
+shut-fails : (l : List ℕ) → Fails (opens l) (BadSheet l)
 unfolding opens
-shut-bad l h =
-    either (leb 6 (length l)) _ h (λ a. short (leb-false _ _ a)) (λ h.
-    either (eqb (back l 3) 77) _ h (λ a. unmarked (eqb-false _ _ a)) (λ h.
-    either (inRange (back l 6) (back l 5) (back l 4)) _ h (range-bad l) (λ h.
-    either (eqb (back l 2 + 256 * back l 1) (wholeSize l)) _ h (λ a. wrong-distance (eqb-false _ _ a)) (λ a.
-    wrong-length (eqb-false _ _ a)))))
+shut-fails l =
+    Iff·trans
+    (and-fails (le-fails _ _) (and-fails (eq-fails _ _) (and-fails (range-fails ruleLimits _ _ _) (and-fails (eq-fails _ _) (eq-fails _ _))))) (
+      ⊎-elim short (⊎-elim unmarked (⊎-elim out-of-range (⊎-elim wrong-distance wrong-length))),
+      λ b. elim b [
+        | short h ↦ inl h
+        | unmarked h ↦ inr (inl h)
+        | out-of-range h ↦ inr (inr (inl h))
+        | wrong-distance h ↦ inr (inr (inr (inl h)))
+        | wrong-length h ↦ inr (inr (inr (inr h)))
+      ],
+    )
 
 -- a choice that came to a constructor tells its test
 chose : {g h : Head} (t : Bool) → cond t (Sheet g) Refused ≡ Sheet h → (t ≡ true) × (g ≡ h)
@@ -103,38 +55,33 @@ chose-not g false e = refl
 -- 11 is given exactly when the sheet is bad
 pub bad-refused : {l : List ℕ} → BadSheet l → Refused ≡ openedOf l
 unfolding openedOf
-bad-refused b = rw (bad-shut b)
+bad-refused {l} b = rw (shut-fails l .1 b)
 
 pub shut-says : (l : List ℕ) → Says (not (opens l)) (BadSheet l)
-shut-says l = in-words (not-says (opens l)) (shut-bad l) bad-shut
+shut-says l = fails-say (shut-fails l)
 
 pub refused-when : (l : List ℕ) → (openedOf l ≡ Refused) ↔ BadSheet l
 unfolding openedOf
-refused-when l = (λ e. shut-bad l (chose-not (headIn l) (opens l) e), λ b. sym (bad-refused b))
+refused-when l = (λ e. shut-fails l .0 (chose-not (headIn l) (opens l) e), λ b. sym (bad-refused b))
 
 -- it is opened exactly when the sheet is good, and its head is as its last bytes say
 pub good-opened : {l : List ℕ} → GoodSheet l → Sheet (headIn l) ≡ openedOf l
 unfolding openedOf
 good-opened g = rw (good-says _ .1 g)
 
--- the code's tests: the numbers by `in_range`, the distance by `word`, the length by `size`; `faults` finds 11 from any of them
-module _ (l : List ℕ) {ok : Bool} (is : ok ≡ inRange (back l 6) (back l 5) (back l 4)) where
-  pub out-of-range : not ok ≡ true → BadSheet l
-  out-of-range h = range-bad l (sym is ∙ not-true ok h)
+-- the code's tests: the numbers by `hold`, the distance by `word`, the length by `size`; `faults` finds 11 from any of them
+module _ (l : List ℕ) {ok : Bool} (is : ok ≡ inRange ruleLimits (back l 6) (back l 5) (back l 4)) where
+  pub not-in-range : not ok ≡ true → BadSheet l
+  not-in-range h = out-of-range (range-fails ruleLimits _ _ _ .0 (sym is ∙ not-true ok h))
 
   pub opened-as : not ok ≡ false → {w : ℕ} → w ≡ back l 2 + 256 * back l 1 → {whole : ℕ} → whole ≡ wholeSize l
       → 6 ≤ length l → back l 3 ≡ 77 → w ≡ whole → length l ≡ whole → Sheet (headIn l) ≡ openedOf l
   opened-as tested told sum long marked distance exact =
-      let r = range-says _ _ _ .0 (sym is ∙ not-false ok tested) in
       good-opened
       (record {
         long = long;
         marked = marked;
-        some-states = r .some-states;
-        few-states = r .few-states;
-        some-events = r .some-events;
-        few-events = r .few-events;
-        initial-in = r .initial-in;
+        in-range = range-says ruleLimits _ _ _ .0 (sym is ∙ not-false ok tested);
         distance = sym told ∙ distance ∙ sum;
         size = exact ∙ sum;
       })
@@ -146,7 +93,7 @@ module _ (l : List ℕ) {whole : ℕ} (sum : whole ≡ wholeSize l) where
   pub cut-off : (length l ≡ whole → ⊥) → BadSheet l
   cut-off h = wrong-length (λ e. h (e ∙ sym sum))
 
-pub ruleset faults = (bad-refused, short, unmarked, out-of-range, far-off, cut-off)
+pub ruleset faults = (bad-refused, short, unmarked, not-in-range, far-off, cut-off)
 
 pub opened-when : (l : List ℕ) (h : Head) → (openedOf l ≡ Sheet h) ↔ (GoodSheet l × (headIn l ≡ h))
 unfolding openedOf
@@ -155,26 +102,14 @@ opened-when l h =
 
 -- what is known of a sheet that opened
 pub record Sized (l : List ℕ) (h : Head) : Type 0 where
-  pub some-states : 1 ≤ h .states
-  pub few-states : h .states ≤ 64
-  pub some-events : 1 ≤ h .events
-  pub few-events : h .events ≤ 32
-  pub initial-in : h .initial .0 < h .states
+  pub in-range : InRange ruleLimits (h .states) (h .events) (h .initial .0)
   pub size : length l ≡ h .states * h .events + 6
 
 pub sized : {l : List ℕ} {h : Head} → Sheet h ≡ openedOf l → Sized l h
 sized {l} {h} e =
     let t = opened-when l h .0 (sym e) in
     let g = t .0 in
-    rw (← t .1)
-    record {
-      some-states = g .some-states;
-      few-states = g .few-states;
-      some-events = g .some-events;
-      few-events = g .few-events;
-      initial-in = g .initial-in;
-      size = g .size;
-    }
+    rw (← t .1) (record { in-range = g .in-range; size = g .size })
 
 -- a cell's place is before the last six bytes
 pub place-inside : (l : List ℕ) (h : Head) → Sheet h ≡ openedOf l → (s : ℕ) → s < h .states → (e : ℕ) → e < h .events → placeOf (h .events) s e < length l

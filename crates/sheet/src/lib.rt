@@ -2,9 +2,15 @@
 // crate making makes it.
 ghost use mathlib.Core.Path.{_≡_};
 ghost use Prim.Native.Nat.{_+_, _*_};
-ghost use Rattle.sheet.specs.Opening.{inRange, openedOf};
+ghost use Rattle.sheet.specs.Opening.{openedOf};
+use rule::Limits;
 use rule::Rule;
 use rule::StateNo;
+
+// The bytes after the cells, and the mark among them.
+pub const END: usize = 6;
+
+pub const MARK: u8 = 77;
 
 // What an opened sheet says of itself: N, K and the initial state.
 pub struct Head {
@@ -19,20 +25,11 @@ pub enum Opened {
     Refused,
 }
 
-// Whether N and K are in range, and the initial state is one of the N: the tests of the definition, joined as there.
-fn in_range(states: u8, events: u8, initial: u8) -> bool
-    ensures { λ r. ⌜ r ≡ inRange states events initial ⌝ }
-{
-    let cells = (1 <= states)
-        & ((states <= Rule::STATES) & ((1 <= events) & (events <= Rule::EVENTS)));
-    cells & (initial < states)
-}
-
 // The length of a sheet of so many states and events: its cells, and six bytes.
 fn size(states: u8, events: u8) -> usize
     ensures { λ r. ⌜ r ≡ states * events + 6 ⌝ }
 {
-    states as usize * events as usize + 6
+    states as usize * events as usize + END
 }
 
 // The number of two bytes, the lower first.
@@ -47,16 +44,20 @@ pub fn open(sheet: &[u8]) -> Opened
     ensures { λ r. ⌜ r ≡ openedOf (now (sheet .entry)) ⌝ }
 {
     let len = sheet.len();
-    if len < 6 {
+    if len < END {
         return Opened::Refused;
     }
-    if sheet[len - 3] != 77 {
+    if sheet[len - 3] != MARK {
         return Opened::Refused;
     }
     let states = sheet[len - 6];
     let events = sheet[len - 5];
-    let initial = sheet[len - 4];
-    if !in_range(states, events, initial) {
+    let initial = StateNo(sheet[len - 4]);
+    let limits = Limits {
+        states: Rule::STATES,
+        events: Rule::EVENTS,
+    };
+    if !limits.hold(states, events, initial) {
         return Opened::Refused;
     }
     let whole = size(states, events);
@@ -69,6 +70,6 @@ pub fn open(sheet: &[u8]) -> Opened
     Opened::Sheet(Head {
         states,
         events,
-        initial: StateNo(initial),
+        initial,
     })
 }

@@ -1,7 +1,7 @@
 // Prints the monitor of the rule file on standard input (document 01, "The printed monitor").
 use libc::STDIN_FILENO;
 use libc::STDOUT_FILENO;
-use rulefile::Written;
+use rule::Written;
 
 // Reads once, and answers whether anything came.
 fn pass_some() -> bool {
@@ -25,7 +25,7 @@ fn main() {
     if length == 3213 {
         pass_rest();
     }
-    let mut out = [0u8; 32768];
+    let mut out = [0u8; printed::TEXT_MAX];
     let written = printed::print(&file[..length], &mut out);
     if let Written::Done(size) = written {
         io::write_all(STDOUT_FILENO, &out[..size]);

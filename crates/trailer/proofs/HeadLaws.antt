@@ -2,10 +2,11 @@
 -- Assumes nothing.
 use mathlib.Core.Path.{_≡_, sym, _∙_}
 use mathlib.Core.List.{[], _∷_}
-use mathlib.Core.Bool.{Bool, true, false, not, _&&_}
+use mathlib.Core.Bool.{Bool, true, false, not, _&&_, _||_}
 use Prim.Native.Nat.{ℕ}
 use borrow.Author.Tests.{le-leb, lt-leb, le-ltb, lt-ltb, eq-eqb, ne-eqb, not-true, not-false}
-use lib.Dec.{leb}
+use lib.Dec.{leb, eqb}
+use Rattle.rule.specs.Range.{ruleLimits, mostPairs, between, inRange}
 use Rattle.rule.specs.Refusals.{refuseIf, firstOf}
 use Rattle.rule.proofs.RefusalLaws.{append-hit, append-more, first-one}
 use Rattle.rule.specs.declared.Shape.{Shape}
@@ -18,19 +19,25 @@ use Rattle.trailer.specs.Conditions.{classed, ranged, shapeConditions}
 -- a comparison's answer from what it compares
 pub ruleset tests = (le-leb, lt-leb, le-ltb, lt-ltb, eq-eqb, ne-eqb)
 
+-- check 3, with the numbers tested apart
+pub range-tested : (s : Shape) {ok : Bool} → ok ≡ inRange ruleLimits (s .states) (s .events) (s .initial .0)
+    → ok && (between 1 mostPairs (s .pairs) && (eqb (s .mode) 0 && (eqb (s .class) 3 || eqb (s .pairs) 1))) ≡ ranged s
+unfolding ranged
+range-tested s is = rw is
+
 -- the refusals 2 and 3
 
-module _ (s : Shape) (spare : ℕ) where
-  pub class-wrong : not (leb 1 (s .class) && leb (s .class) 4) ≡ true → Refused Class ≡ firstOf (shapeConditions s spare)
+module _ (s : Shape) where
+  pub class-wrong : not (leb 1 (s .class) && leb (s .class) 4) ≡ true → Refused Class ≡ firstOf (shapeConditions s)
   unfolding firstOf classed
   class-wrong h = rw h
 
-  module _ (right : not (leb 1 (s .class) && leb (s .class) 4) ≡ false) {ok : Bool} (is : ok ≡ ranged s spare) where
-    pub range-wrong : not ok ≡ true → Refused Range ≡ firstOf (shapeConditions s spare)
+  module _ (right : not (leb 1 (s .class) && leb (s .class) 4) ≡ false) {ok : Bool} (is : ok ≡ ranged s) where
+    pub range-wrong : not ok ≡ true → Refused Range ≡ firstOf (shapeConditions s)
     unfolding firstOf classed
     range-wrong h = rw (right, ← is, not-true ok h)
 
-    pub range-right : not ok ≡ false → Sound ≡ firstOf (shapeConditions s spare)
+    pub range-right : not ok ≡ false → Sound ≡ firstOf (shapeConditions s)
     unfolding firstOf classed
     range-right h = rw (right, ← is, not-false ok h)
 

@@ -3,19 +3,22 @@
 use mathlib.Core.Path.{_≡_}
 use mathlib.Core.List.{List}
 use mathlib.Core.Bool.{Bool, not}
-use mathlib.Core.Logic.{_⊎_, _↔_}
-use Prim.Native.Nat.{ℕ, _-_, _*_, _≤_, _<_}
+use mathlib.Core.Logic.{_↔_}
+use Prim.Native.Nat.{ℕ, _-_, _*_, _≤_}
 use native.Mathlib.Nat.{mul-le-mul}
 use borrow.Author.Tests.{not-false}
 use lib.ListN.{length, getD}
 use Rattle.rule.specs.Refusals.{refuseIf, firstOf}
-use Rattle.rule.proofs.BoolLaws.{Says, and-says, or-says, eq-says, le-says, lt-says, in-words}
+use Rattle.rule.specs.Range.{ruleLimits, Classed, Ranged}
+use Rattle.rule.proofs.RangeLaws.{range-says}
+use Rattle.rule.proofs.BoolLaws.{Says, and-says, or-says, eq-says, le-says, in-words}
 use Rattle.rule.proofs.RefusalLaws.{refuse-sound, first-sound}
 use Rattle.rule.specs.declared.Shape.{Shape}
 use Rattle.rule.specs.declared.Refusal.{Refusal}
 use Rattle.rule.specs.declared.Refusal.the-variants.{Class, Range, Distance}
 use Rattle.rule.specs.declared.Verdict.the-variants.{Sound}
-use Rattle.trailer.specs.Conditions.{framed, classed, ranged, placed, pairsBack, tableBack, headConditions}
+use Rattle.trailer.specs.Layout.{pairsBack, tableBack}
+use Rattle.trailer.specs.Conditions.{framed, classed, ranged, placed, headConditions}
 use Rattle.trailer.specs.declared.Trailer.{Trailer}
 
 -- a condition that is refused where its test fails
@@ -40,46 +43,20 @@ framed-says f =
     (λ p. (p .long, (p .short, (p .first-mark, p .last-mark))))
 
 -- 2: class 1 to 4
-pub record Classed (s : Shape) : Type 0 where
-  pub low : 1 ≤ s .class
-  pub high : s .class ≤ 4
-
 pub classed-says : (s : Shape) → Says (classed s) (Classed s)
 unfolding classed
 classed-says s =
     in-words (and-says (le-says _ _) (le-says _ _)) (λ p. record { low = p .0; high = p .1 }) (λ p. (p .low, p .high))
 
 -- 3: N, K and m in range, the initial state below N, byte 5 zero, and m 1 but in class 3
-pub record Ranged (s : Shape) (spare : ℕ) : Type 0 where
-  pub some-states : 1 ≤ s .states
-  pub states-in : s .states ≤ 64
-  pub some-events : 1 ≤ s .events
-  pub events-in : s .events ≤ 32
-  pub some-pairs : 1 ≤ s .pairs
-  pub pairs-in : s .pairs ≤ 8
-  pub initial-in : s .initial .0 < s .states
-  pub spare-none : spare ≡ 0
-  pub one-pair : (s .class ≡ 3) ⊎ (s .pairs ≡ 1)
-
-pub ranged-says : (s : Shape) (spare : ℕ) → Says (ranged s spare) (Ranged s spare)
+pub ranged-says : (s : Shape) → Says (ranged s) (Ranged s)
 unfolding ranged
-ranged-says s spare =
+ranged-says s =
     in-words
-    (and-says (le-says _ _) (and-says (le-says _ _) (and-says (le-says _ _) (and-says (le-says _ _) (and-says (le-says _ _)
-    (and-says (le-says _ _) (and-says (lt-says _ _) (and-says (eq-says _ _) (or-says (eq-says _ _) (eq-says _ _))))))))))
-    (λ p.
-    record {
-      some-states = p .0;
-      states-in = p .1 .0;
-      some-events = p .1 .1 .0;
-      events-in = p .1 .1 .1 .0;
-      some-pairs = p .1 .1 .1 .1 .0;
-      pairs-in = p .1 .1 .1 .1 .1 .0;
-      initial-in = p .1 .1 .1 .1 .1 .1 .0;
-      spare-none = p .1 .1 .1 .1 .1 .1 .1 .0;
-      one-pair = p .1 .1 .1 .1 .1 .1 .1 .1;
-    })
-    (λ p. (p .some-states, (p .states-in, (p .some-events, (p .events-in, (p .some-pairs, (p .pairs-in, (p .initial-in, (p .spare-none, p .one-pair)))))))))
+    (and-says (range-says ruleLimits (s .states) (s .events) (s .initial .0))
+    (and-says (and-says (le-says _ _) (le-says _ _)) (and-says (eq-says _ _) (or-says (eq-says _ _) (eq-says _ _)))))
+    (λ p. record { numbers = p .0; some-pairs = p .1 .0 .0; few-pairs = p .1 .0 .1; no-mode = p .1 .1 .0; one-pair = p .1 .1 .1 })
+    (λ r. (r .numbers, ((r .some-pairs, r .few-pairs), (r .no-mode, r .one-pair))))
 
 -- 4: the distances are right, the file is as long as they say, and the note is not over 1,024
 pub record Placed (t : Trailer) (size : ℕ) : Type 0 where
@@ -98,7 +75,7 @@ placed-says t size =
 -- 2 to 4 of a file
 pub record Headed (t : Trailer) (size : ℕ) : Type 0 where
   pub classed : Classed (t .shape)
-  pub ranged : Ranged (t .shape) (t .spare)
+  pub ranged : Ranged (t .shape)
   pub placed : Placed t size
 
 pub headed-sound : (t : Trailer) (size : ℕ) → firstOf (headConditions t size) ≡ Sound → Headed t size
@@ -108,10 +85,10 @@ headed-sound t size e =
     let c = first-sound _ _ .0 (b .1) in
     record {
       classed = passed Class (classed-says (t .shape)) .0 (a .0);
-      ranged = passed Range (ranged-says (t .shape) (t .spare)) .0 (b .0);
+      ranged = passed Range (ranged-says (t .shape)) .0 (b .0);
       placed = passed Distance (placed-says t size) .0 (c .0);
     }
 
 -- the cells of a shape in range stand in a table of 2,048
-pub cells-in : {s : Shape} {spare : ℕ} → Ranged s spare → s .states * s .events ≤ 2048
-cells-in r = mul-le-mul (r .states-in) (r .events-in)
+pub cells-in : {s : Shape} → Ranged s → s .states * s .events ≤ 2048
+cells-in r = mul-le-mul (r .numbers .few-states) (r .numbers .few-events)

@@ -2,15 +2,22 @@
 ghost use mathlib.Core.Path.{_≡_};
 ghost use Rattle.rule.specs.Refusals.{firstOf};
 ghost use Rattle.trailer.specs.Conditions.{shapeConditions, headConditions};
+use rule::Limits;
 use rule::Refusal;
 use rule::Rule;
 use rule::Shape;
 use rule::Verdict;
 
+// The bytes of the trailer, of a pair, and of the longest file.
+pub const SIZE: usize = 12;
+
+pub const PAIR: usize = 16;
+
+pub const LONGEST: usize = 3212;
+
 // What the last twelve bytes of a file say.
 pub struct Trailer {
     pub shape: Shape,
-    pub spare: u8,
     pub table: usize,
     pub pairs: usize,
 }
@@ -20,10 +27,10 @@ pub fn framed(file: &[u8]) -> bool
     ensures { λ r. ⌜ r ≡ Rattle.trailer.specs.Conditions.framed (now (file .entry)) ⌝ }
 {
     let len = file.len();
-    if len < 12 {
+    if len < SIZE {
         return false;
     }
-    if 3212 < len {
+    if LONGEST < len {
         return false;
     }
     if file[len - 2] != 72 {
@@ -32,27 +39,28 @@ pub fn framed(file: &[u8]) -> bool
     file[len - 1] == 82
 }
 
-// Whether N, K, m, the initial state and the spare byte are in range, and m is 1 where the class has one pair. The tests are joined by
-// `&`, as in the definition: none of them can fail, and there is no branch for each.
-fn ranged(shape: Shape, spare: u8) -> bool
-    ensures { λ r. ⌜ r ≡ Rattle.trailer.specs.Conditions.ranged shape spare ⌝ }
+// Whether N, K, m, the initial state and the mode are in range, and m is 1 where the class has one pair.
+fn ranged(shape: Shape) -> bool
+    ensures { λ r. ⌜ r ≡ Rattle.trailer.specs.Conditions.ranged shape ⌝ }
 {
-    let states = (1 <= shape.states) & (shape.states <= Rule::STATES);
-    let events = (1 <= shape.events) & (shape.events <= Rule::EVENTS);
+    let limits = Limits {
+        states: Rule::STATES,
+        events: Rule::EVENTS,
+    };
+    let numbers = limits.hold(shape.states, shape.events, shape.initial);
     let pairs = (1 <= shape.pairs) & (shape.pairs <= Rule::PAIRS);
-    let initial = shape.initial;
-    let start = (initial.0 < shape.states) & (spare == 0);
-    states & (events & (pairs & (start & ((shape.class == 3) | (shape.pairs == 1)))))
+    let one = (shape.class == 3) | (shape.pairs == 1);
+    numbers & (pairs & ((shape.mode == 0) & one))
 }
 
 // The refusals 2 and 3.
-pub fn shaped(shape: Shape, spare: u8) -> Verdict
-    ensures { λ r. ⌜ r ≡ firstOf (shapeConditions shape spare) ⌝ }
+pub fn check_shape(shape: Shape) -> Verdict
+    ensures { λ r. ⌜ r ≡ firstOf (shapeConditions shape) ⌝ }
 {
     if !((1 <= shape.class) & (shape.class <= 4)) {
         return Verdict::Refused(Refusal::Class);
     }
-    if !ranged(shape, spare) {
+    if !ranged(shape) {
         return Verdict::Refused(Refusal::Range);
     }
     Verdict::Sound
@@ -63,7 +71,7 @@ fn placed(trailer: Trailer, len: usize) -> bool
     ensures { λ r. ⌜ r ≡ Rattle.trailer.specs.Conditions.placed trailer len ⌝ }
 {
     let shape = trailer.shape;
-    let pairs = 12 + 16 * (shape.pairs as usize);
+    let pairs = SIZE + PAIR * (shape.pairs as usize);
     let table = pairs + (shape.states as usize) * (shape.events as usize);
     if trailer.pairs != pairs {
         return false;
@@ -74,15 +82,15 @@ fn placed(trailer: Trailer, len: usize) -> bool
     if len < table {
         return false;
     }
-    len - table <= 1024
+    len - table <= Rule::NOTE
 }
 
 // The refusals 2 to 4 of a file of so many bytes.
-pub fn headed(trailer: Trailer, len: usize) -> Verdict
+pub fn check_trailer(trailer: Trailer, len: usize) -> Verdict
     ensures { λ r. ⌜ r ≡ firstOf (headConditions trailer len) ⌝ }
 {
     let shape = trailer.shape;
-    let verdict = shaped(shape, trailer.spare);
+    let verdict = check_shape(shape);
     let Verdict::Sound = verdict else {
         return verdict;
     };

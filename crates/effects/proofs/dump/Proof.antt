@@ -13,11 +13,11 @@ copy-requires c κs = search needs
 slice-write-output : tie.Need-slice-write-output
 slice-write-output c = search needs
 
+add-released : tie.Need-add-released
+add-released c = search needs
+
 new-requires : tie.Need-new-requires
 new-requires c κs = search needs
-
-add-t6 : tie.Need-add-t6
-add-t6 c = search needs
 
 same-length : tie.Need-same-length
 same-length c = search needs
@@ -28,4 +28,4 @@ returns-2 c = search (needs, dumped)
 pub dump-spec : {M : Type 1} → statement M
 dump-spec =
     tie.close
-    (tie.spec returns copy-requires slice-write-output new-requires add-t6 same-length returns-2)
+    (tie.spec returns copy-requires slice-write-output add-released new-requires same-length returns-2)

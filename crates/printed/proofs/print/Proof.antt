@@ -1,21 +1,15 @@
--- `printed::print` meets its contract: no room, or the text.
+-- `printed::print` meets its contract: the text is measured, and put where it fits.
 -- Assumes nothing.
 use borrow.Author.Needs.{needs}
-use Rattle.printed.proofs.PrintLaws.{no-room, all-put}
+use Rattle.printed.proofs.PrintLaws.{table-starts, table-ends, print-no-room, print-put}
 use Rattle.printed.proofs.print.Statement.{statement}
 use Rattle.printed.proofs.print.Tie as tie
 
-returns : tie.Need-returns
-returns c = search (needs, no-room)
-
-put-text-requires : tie.Need-put-text-requires
-put-text-requires c κs = search needs
-
-same-length : tie.Need-same-length
-same-length c = search needs
-
-returns-2 : tie.Need-returns-2
-returns-2 c = search (needs, all-put)
+ruleset steps = (needs, table-starts, table-ends, print-no-room, print-put)
 
 pub print-spec : {M : Type 1} → statement M
-print-spec = tie.close (tie.spec returns put-text-requires same-length returns-2)
+print-spec =
+    tie.close
+    (tie.spec
+    (λ c κs. search steps) (λ c. search steps) (λ c. search steps) (λ c. search steps) (λ c κs. search steps) (λ c. search steps) (λ c. search steps)
+    (λ c κs. search steps) (λ c. search steps) (λ c. search steps) (λ c κs. search steps) (λ c. search steps) (λ c. search steps))

@@ -31,8 +31,8 @@ part-trailer-of-end c = search needs
 trailer-of-requires : tie.Need-trailer-of-requires
 trailer-of-requires c κs = search (needs, trailer-long)
 
-headed-requires : tie.Need-headed-requires
-headed-requires c κs = search needs
+check-trailer-requires : tie.Need-check-trailer-requires
+check-trailer-requires c κs = search needs
 
 enum-known-verdict : tie.Need-enum-known-verdict
 enum-known-verdict c = search needs
@@ -67,17 +67,17 @@ part-pairs-of-end c = search needs
 pairs-of-requires : tie.Need-pairs-of-requires
 pairs-of-requires c κs = (search (needs, pairs-few), search (needs, pairs-whole))
 
-sub-checked : tie.Need-sub-checked
-sub-checked c = search (needs, table-before-pairs)
+sub-check-body : tie.Need-sub-check-body
+sub-check-body c = search (needs, table-before-pairs)
 
-part-checked-start : tie.Need-part-checked-start
-part-checked-start c = search (needs, table-before-pairs)
+part-check-body-start : tie.Need-part-check-body-start
+part-check-body-start c = search (needs, table-before-pairs)
 
-part-checked-end : tie.Need-part-checked-end
-part-checked-end c = search needs
+part-check-body-end : tie.Need-part-check-body-end
+part-check-body-end c = search needs
 
-checked-requires : tie.Need-checked-requires
-checked-requires c κs = search needs
+check-body-requires : tie.Need-check-body-requires
+check-body-requires c κs = search needs
 
 enum-known-verdict-2 : tie.Need-enum-known-verdict-2
 enum-known-verdict-2 c = search needs
@@ -86,7 +86,7 @@ refused-requires-3 : tie.Need-refused-requires-3
 refused-requires-3 c κs = search needs
 
 -- what the checks came to is the verdict on the file
-told : (c : tie.After-checked) → c .checked .result ≡ verdictOn (c .before .before .before .before .before .before .before .before .before .before .before .before .before .before .before .args .file .now)
+told : (c : tie.After-check-body) → c .check-body .result ≡ verdictOn (c .before .before .before .before .before .before .before .before .before .before .before .before .before .before .before .args .file .now)
 told c = search (needs, body-told)
 
 returns-3 : tie.Need-returns-3
@@ -110,7 +110,7 @@ parts-spec =
     part-trailer-of-start
     part-trailer-of-end
     trailer-of-requires
-    headed-requires
+    check-trailer-requires
     enum-known-verdict
     refused-requires-2
     returns-2
@@ -122,10 +122,10 @@ parts-spec =
     part-pairs-of-start
     part-pairs-of-end
     pairs-of-requires
-    sub-checked
-    part-checked-start
-    part-checked-end
-    checked-requires
+    sub-check-body
+    part-check-body-start
+    part-check-body-end
+    check-body-requires
     enum-known-verdict-2
     refused-requires-3
     returns-3

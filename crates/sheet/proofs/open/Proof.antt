@@ -25,14 +25,14 @@ sub-events c = search needs
 shared-slice-read-events : tie.Need-shared-slice-read-events
 shared-slice-read-events c = search needs
 
-sub-initial : tie.Need-sub-initial
-sub-initial c = search needs
+sub-word : tie.Need-sub-word
+sub-word c = search needs
 
-shared-slice-read-initial : tie.Need-shared-slice-read-initial
-shared-slice-read-initial c = search needs
+shared-slice-read-word : tie.Need-shared-slice-read-word
+shared-slice-read-word c = search needs
 
-in-range-requires : tie.Need-in-range-requires
-in-range-requires c κs = search needs
+hold-requires : tie.Need-hold-requires
+hold-requires c κs = search needs
 
 returns-3 : tie.Need-returns-3
 returns-3 c = search (needs, faults)
@@ -40,17 +40,17 @@ returns-3 c = search (needs, faults)
 size-requires : tie.Need-size-requires
 size-requires c κs = search needs
 
-sub-word : tie.Need-sub-word
-sub-word c = search needs
-
-shared-slice-read-word : tie.Need-shared-slice-read-word
-shared-slice-read-word c = search needs
-
 sub-word-2 : tie.Need-sub-word-2
 sub-word-2 c = search needs
 
 shared-slice-read-word-2 : tie.Need-shared-slice-read-word-2
 shared-slice-read-word-2 c = search needs
+
+sub-word-3 : tie.Need-sub-word-3
+sub-word-3 c = search needs
+
+shared-slice-read-word-3 : tie.Need-shared-slice-read-word-3
+shared-slice-read-word-3 c = search needs
 
 word-requires : tie.Need-word-requires
 word-requires c κs = search needs
@@ -75,15 +75,15 @@ open-spec =
     shared-slice-read-states
     sub-events
     shared-slice-read-events
-    sub-initial
-    shared-slice-read-initial
-    in-range-requires
-    returns-3
-    size-requires
     sub-word
     shared-slice-read-word
+    hold-requires
+    returns-3
+    size-requires
     sub-word-2
     shared-slice-read-word-2
+    sub-word-3
+    shared-slice-read-word-3
     word-requires
     returns-4
     returns-5

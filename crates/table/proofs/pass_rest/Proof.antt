@@ -1,5 +1,5 @@
 -- `table::pass_rest` is safe and ends: the measure is the number of turns that are left. Assumes nothing.
-use native.Mathlib.Omega.{arith}
+use borrow.Author.Needs.{needs}
 use Rattle.table.proofs.pass_rest.Statement.{statement}
 use Rattle.table.proofs.pass_rest.Tie as tie
 
@@ -9,26 +9,8 @@ Inv-loop turns₀ turns = Unit {0}
 abbrev μ-loop : tie.MeasureT-loop
 μ-loop turns₀ turns = turns
 
-loop-holds : tie.Need-loop-holds Inv-loop μ-loop
-loop-holds c = tt
-
-pass-some-requires : tie.Need-pass-some-requires Inv-loop μ-loop
-pass-some-requires c κs = tt
-
-sub-turns : tie.Need-sub-turns Inv-loop μ-loop
-sub-turns c = omega arith
-
-loop-less : tie.Need-loop-less Inv-loop μ-loop
-loop-less c = omega arith
-
-loop-again : tie.Need-loop-again Inv-loop μ-loop
-loop-again c = tt
-
-returns : tie.Need-returns Inv-loop μ-loop
-returns c = tt
-
-returns-2 : tie.Need-returns-2 Inv-loop μ-loop
-returns-2 c = tt
-
 pub pass-rest-spec : {M : Type 1} → statement M
-pass-rest-spec = tie.close (tie.spec Inv-loop μ-loop loop-holds pass-some-requires sub-turns loop-less loop-again returns returns-2)
+pass-rest-spec =
+    tie.close
+    (tie.spec Inv-loop μ-loop
+    (λ c. tt) (λ c κs. tt) (λ c. search needs) (λ c. search needs) (λ c. tt) (λ c. tt) (λ c. tt))

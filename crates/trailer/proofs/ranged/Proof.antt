@@ -1,13 +1,15 @@
--- `trailer::ranged` meets its contract: it is the definition, with its tests in groups.
+-- `trailer::ranged` meets its contract: it is the definition, with the numbers tested apart.
 -- Assumes nothing.
-use mathlib.Core.Bool.{and-assoc}
-use Rattle.trailer.specs.Conditions.{ranged}
+use borrow.Author.Needs.{needs}
+use Rattle.trailer.proofs.HeadLaws.{range-tested}
 use Rattle.trailer.proofs.ranged.Statement.{statement}
 use Rattle.trailer.proofs.ranged.Tie as tie
 
+hold-requires : tie.Need-hold-requires
+hold-requires c κs = search needs
+
 returns : tie.Need-returns
-unfolding ranged
-returns c = simp and-assoc
+returns c = search (needs, range-tested)
 
 pub ranged-spec : {M : Type 1} → statement M
-ranged-spec = tie.close (tie.spec returns)
+ranged-spec = tie.close (tie.spec hold-requires returns)

@@ -3,7 +3,8 @@
 use borrow.Author.Needs.{needs}
 use Prim.Native.Nat.{_*_}
 use Rattle.octets.proofs.ListLaws.{part-rest}
-use Rattle.rulefile.specs.Layout.{pairsOut, trailerOut}
+use Rattle.trailer.specs.Layout.{trailerOut}
+use Rattle.rulefile.specs.Layout.{pairsOut}
 use Rattle.rulefile.proofs.LayoutLaws.{length-pairsOut}
 use Rattle.writing.proofs.put_end.Statement.{statement}
 use Rattle.writing.proofs.put_end.Tie as tie

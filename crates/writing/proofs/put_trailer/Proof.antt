@@ -6,7 +6,7 @@ use native.Mathlib.Omega.{arith}
 use Rattle.octets.specs.Numbers.{digits}
 use Rattle.octets.proofs.CopyLaws.{copied-full}
 use Rattle.rule.proofs.ByteLaws.{bytes-mul}
-use Rattle.rulefile.specs.Layout.{trailerOut}
+use Rattle.trailer.specs.Layout.{trailerOut}
 use Rattle.writing.proofs.put_trailer.Statement.{statement}
 use Rattle.writing.proofs.put_trailer.Tie as tie
 

@@ -6,8 +6,8 @@ use Rattle.rulefile.proofs.WritingLaws.{head-refused, pairs-few, note-in-array,
 use Rattle.writing.proofs.write.Statement.{statement}
 use Rattle.writing.proofs.write.Tie as tie
 
-measured-requires : tie.Need-measured-requires
-measured-requires c κs = search needs
+check-head-requires : tie.Need-check-head-requires
+check-head-requires c κs = search needs
 
 enum-known-verdict : tie.Need-enum-known-verdict
 enum-known-verdict c = search needs
@@ -30,11 +30,11 @@ mul-cells c = search (needs, product-fits)
 array-share-prefix-table : tie.Need-array-share-prefix-table
 array-share-prefix-table c = search (needs, table-in-array)
 
-slice-aggregate-checked : tie.Need-slice-aggregate-checked
-slice-aggregate-checked c = search (needs, table-taken)
+slice-aggregate-check-body : tie.Need-slice-aggregate-check-body
+slice-aggregate-check-body c = search (needs, table-taken)
 
-checked-requires : tie.Need-checked-requires
-checked-requires c κs = search needs
+check-body-requires : tie.Need-check-body-requires
+check-body-requires c κs = search needs
 
 enum-known-verdict-2 : tie.Need-enum-known-verdict-2
 enum-known-verdict-2 c = search needs
@@ -70,7 +70,7 @@ pub write-spec : {M : Type 1} → statement M
 write-spec =
     tie.close
     (tie.spec
-    measured-requires
+    check-head-requires
     enum-known-verdict
     returns
     enum-told
@@ -78,8 +78,8 @@ write-spec =
     cast-cells-2
     mul-cells
     array-share-prefix-table
-    slice-aggregate-checked
-    checked-requires
+    slice-aggregate-check-body
+    check-body-requires
     enum-known-verdict-2
     returns-2
     enum-told-2

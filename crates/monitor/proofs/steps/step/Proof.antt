@@ -19,6 +19,9 @@ enum-known-turn-2 c = search needs
 enum-told : tie.Need-enum-told
 enum-told c = search needs
 
+halt-requires : tie.Need-halt-requires
+halt-requires c κs = search needs
+
 returns-2 : tie.Need-returns-2
 returns-2 c = search (needs, step-halt)
 
@@ -64,6 +67,7 @@ step-spec =
     returns
     enum-known-turn-2
     enum-told
+    halt-requires
     returns-2
     enum-told-2
     store-requires

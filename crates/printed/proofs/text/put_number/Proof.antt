@@ -1,21 +1,16 @@
--- `printed::text::put_number` meets its contract.
+-- `printed::text::put_number` meets its contract: the digits that the number has.
 -- Assumes nothing.
 use borrow.Author.Needs.{needs}
-use Rattle.printed.proofs.TextLaws.{put-spaced}
+use Rattle.printed.proofs.TextLaws.{number-one, number-two, number-three}
 use Rattle.printed.proofs.text.put_number.Statement.{statement}
 use Rattle.printed.proofs.text.put_number.Tie as tie
 
-put-byte-requires : tie.Need-put-byte-requires
-put-byte-requires c κs = search needs
-
-put-decimal-requires : tie.Need-put-decimal-requires
-put-decimal-requires c κs = search needs
-
-same-length : tie.Need-same-length
-same-length c = search needs
-
-returns : tie.Need-returns
-returns c = search (needs, put-spaced)
+ruleset steps = (needs, number-one, number-two, number-three)
 
 pub put-number-spec : {M : Type 1} → statement M
-put-number-spec = tie.close (tie.spec put-byte-requires put-decimal-requires same-length returns)
+put-number-spec =
+    tie.close
+    (tie.spec
+    (λ c κs. search steps) (λ c. search steps) (λ c. search steps) (λ c. search steps) (λ c. search steps) (λ c. search steps) (λ c. search steps)
+    (λ c κs. search steps) (λ c. search steps) (λ c. search steps) (λ c. search steps) (λ c. search steps) (λ c. search steps) (λ c κs. search steps)
+    (λ c. search steps) (λ c. search steps) (λ c. search steps) (λ c κs. search steps) (λ c. search steps) (λ c. search steps))

@@ -5,7 +5,7 @@ use mathlib.Core.Path.{_∙_}
 use native.Mathlib.Omega.{arith}
 use lib.ListN.{drop}
 use Rattle.octets.proofs.NumberLaws.{valueOf-part}
-use Rattle.rulefile.specs.Layout.{trailerOf}
+use Rattle.trailer.specs.Layout.{trailerOf}
 use Rattle.rulefile.proofs.layout.trailer_of.Statement.{statement}
 use Rattle.rulefile.proofs.layout.trailer_of.Tie as tie
 
@@ -48,8 +48,8 @@ shared-slice-read-t19 c = search needs
 shared-slice-read-t21 : tie.Need-shared-slice-read-t21
 shared-slice-read-t21 c = search needs
 
-shared-slice-read-t25 : tie.Need-shared-slice-read-t25
-shared-slice-read-t25 c = search needs
+shared-slice-read-t24 : tie.Need-shared-slice-read-t24
+shared-slice-read-t24 c = search needs
 
 returns : tie.Need-returns
 unfolding trailerOf
@@ -77,5 +77,5 @@ trailer-of-spec =
     shared-slice-read-t17
     shared-slice-read-t19
     shared-slice-read-t21
-    shared-slice-read-t25
+    shared-slice-read-t24
     returns)
