@@ -34,13 +34,25 @@
  *   - A buffer of length 0 is never touched, and its pointer may be NULL, as C++ callers have it (an empty vector's data()). A length of 0
  *     is fine everywhere, and is answered by a refusal where bytes were needed. With any other length the pointer must be valid.
  *   - `const` buffers are only read.
- *   - Nothing outside of what an answer names is written: pachallu_make writes sheet[0] to sheet[written - 1]; a store writes the
- *     one byte memory[held] (held as it was given); a dump writes output[0] to output[released - 1]; a halt writes nothing.
+ *   - Nothing outside of what an answer names is written: pachallu_make writes sheet[0] to sheet[written - 1], and so do
+ *     pachallu_print and pachallu_add with the text and the new book; a store writes the one byte memory[held] (held as it was
+ *     given); a dump writes output[0] to output[released - 1]; a halt writes nothing.
  *
- * A REFUSAL (`refusal` not 0) changes no byte of any buffer. A refused make has written 0; a refused start has state 0 and
- * held 0; a refused event returns the state and held that it was given, with operation 0 and released 0: look at `refusal`
- * before `operation`. A refused event is not taken: the same or another one may be offered next, for instance with a longer
- * output. `a` and `b` are the two places of the table below, 0 where none is named.
+ * A RULE BOOK has up to 1,024 rule files under numbers from 0 to 255. pachallu_find looks a number up in two books, the job's and
+ * then the office's, and says where the rule's bytes stand; pachallu_add writes a book with one rule more. The latest rule under a
+ * number has age 0 and is in force, the one before it age 1. The book of no rules is the two bytes 0 0; it is also the job's book
+ * where a job has none. A lookup does not judge the rule: pachallu_make does. A rule that pachallu_add has put in is always one
+ * that pachallu_make takes.
+ *
+ *     pachallu_found found = pachallu_find(job, job_len, office, office_len, 7, 0);
+ *     if (found.refusal) ...
+ *     else pachallu_make((found.book == 0 ? job : office) + found.start, found.length, sheet, sizeof sheet);
+ *
+ * A REFUSAL (`refusal` not 0) changes no byte of any buffer. A refused make or add has written 0; a refused lookup has book,
+ * start and length 0 (a rule of length 0 may be found: look at `refusal`); a refused start has state 0 and held 0; a refused event
+ * returns the state and held that it was given, with operation 0 and released 0: look at `refusal` before `operation`. A refused
+ * event is not taken: the same or another one may be offered next, for instance with a longer output. `a` and `b` are the two
+ * places of the table below, 0 where none is named.
  *
  *     no.  given when                                                                        a, b
  *      1   rule file under 12 or over 3,212 bytes, or its last two bytes are not 72, 82
@@ -62,8 +74,15 @@
  *     14   the sheet's cell is spoiled                                                       state, event
  *     15   to be stored, but the memory is full
  *     16   the output has too little room
+ *     17   this is no rule book: its count is missing or over 1,024, its directory exceeds   0: the job's book, or the one
+ *          it, the second byte of an entry is not 0, or the rules, in entry order, do not    added to; 1: the office's
+ *          exactly fill it up to the directory
+ *     18   neither book has the number, or the one used has no such age: the job's where
+ *          it has the number at all, else the office's
+ *     26   the book has 1,024 rules already
  *
- * pachallu_make gives 1 to 10, then 16; pachallu_fresh gives 11; pachallu_event gives 11 to 16; always the first that holds.
+ * pachallu_make gives 1 to 10, then 16; pachallu_fresh gives 11; pachallu_event gives 11 to 16; pachallu_find gives 17 for the job's
+ * book, 17 for the office's, 18; pachallu_add gives 17, 1 to 10 of the rule, 26, 16; always the first that holds.
  * pachallu_print tells 1 to 10 in its text, and gives 16. pachallu_refusal_text puts a number into words.
  *
  * The library is x86-64 code for Linux. Usable from C99 and C++.
@@ -89,6 +108,10 @@ extern "C" {
 #define PACHALLU_EVENTS_MAX 32
 #define PACHALLU_PAIRS_MAX 8
 
+/* The most rules of a rule book, and the longest book. */
+#define PACHALLU_BOOK_RULES_MAX 1024
+#define PACHALLU_BOOK_MAX 67116034
+
 /* pachallu_answer.operation */
 #define PACHALLU_HALT 0
 #define PACHALLU_STORE 1
@@ -97,7 +120,7 @@ extern "C" {
 typedef struct {
     uint8_t refusal; /* 0: done */
     uint8_t a, b;    /* places of a refusal */
-    size_t written;  /* bytes at the front of the sheet: states * events + 6 */
+    size_t written;  /* bytes at the front of the output; of a sheet: states * events + 6 */
 } pachallu_made;
 
 typedef struct {
@@ -116,6 +139,14 @@ typedef struct {
     size_t released;   /* bytes at the front of the output: held as given + 1 for a dump, else 0 */
 } pachallu_answer;
 
+typedef struct {
+    uint8_t refusal; /* 0: found */
+    uint8_t a, b;    /* places of a refusal */
+    uint8_t book;    /* 0: in the job's book; 1: in the office's */
+    size_t start;    /* the rule's first byte there */
+    size_t length;   /* and how many there are */
+} pachallu_found;
+
 /* Makes the sheet of a rule file. PACHALLU_SHEET_MAX bytes of room are always enough. */
 pachallu_made pachallu_make(const uint8_t *rule, size_t rule_len, uint8_t *sheet, size_t sheet_len);
 
@@ -128,6 +159,15 @@ pachallu_answer pachallu_event(const uint8_t *sheet, size_t sheet_len, uint8_t s
 
 /* Prints a rule file's monitor, or its refusal, as the program table does. 16 where the text does not fit; PACHALLU_TEXT_MAX bytes are always enough. */
 pachallu_made pachallu_print(const uint8_t *rule, size_t rule_len, uint8_t *text, size_t text_len);
+
+/* Looks a rule up in two rule books, by its number and age: in the job's where that has the number at all, else in the office's. */
+pachallu_found pachallu_find(const uint8_t *job, size_t job_len, const uint8_t *office, size_t office_len, uint8_t number,
+                             uint16_t age);
+
+/* Writes a rule book with one rule more, which is then in force under its number. All earlier rules stand where they stood.
+ * book_len + rule_len + 8 bytes of room are exactly enough. */
+pachallu_made pachallu_add(const uint8_t *book, size_t book_len, uint8_t number, const uint8_t *rule, size_t rule_len, uint8_t *out,
+                           size_t out_len);
 
 /* What a refusal number means, in a few words and with no full stop; never NULL. A and B are the places of the table above. */
 static inline const char *pachallu_refusal_text(uint8_t refusal) {
@@ -149,8 +189,14 @@ static inline const char *pachallu_refusal_text(uint8_t refusal) {
         "the sheet is spoiled at state A, event B",
         "the event is to be held, and the memory is full",
         "the output has too little room",
+        "this is no rule book: its count, its directory or its rules' lengths are wrong (A 0: the job's or the one added to, 1: the "
+        "office's)",
+        "neither book has a rule of this number, or the one that is used has none of this age",
+        0, 0, 0, 0, 0, 0, 0, /* 19 to 25 */
+        "the rule book has 1,024 rules already",
     };
-    return refusal < sizeof texts / sizeof texts[0] ? texts[refusal] : "this number is not known to this version";
+    const char *text = refusal < sizeof texts / sizeof texts[0] ? texts[refusal] : 0;
+    return text ? text : "this number is not known to this version";
 }
 
 #ifdef __cplusplus
