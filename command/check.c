@@ -1,5 +1,4 @@
 /* check.c: pachallu check: is a rule accepted? */
-#include <string.h>
 #include <unistd.h>
 
 #include "command.h"
@@ -24,11 +23,10 @@ static void put_accepted(struct sink *out, const struct loaded *loaded) {
 
 enum status command_check(const struct arguments *arguments) {
     static struct loaded loaded;
-    const char *file = arguments->operand[0];
-    enum status status = load(file, &loaded);
+    enum status status = load(&arguments->rule, &loaded);
     if (status != DONE) return status;
     struct sink out = sink_to(STDOUT_FILENO);
-    put_line(&out, "%s: ", strcmp(file, "-") == 0 ? "standard input" : visible(file, strlen(file)));
+    put_line(&out, "%s: %s", file_words(loaded.file), loaded.part);
     if (loaded.made.refusal == 0) {
         put_accepted(&out, &loaded);
     } else {

@@ -38,13 +38,13 @@ static enum status to_rule(const char *file, const struct drawing *drawing, bool
 static enum status draw_text(const struct arguments *arguments, const uint8_t *text, size_t len) {
     static struct drawing drawing;
     static struct loaded loaded;
-    const char *file = arguments->operand[0];
+    const char *file = arguments->file[0], *const sources[] = {file, NULL};
     drawing_read(text, len, &drawing);
     const struct complaints *complaints = &drawing.complaints;
     for (size_t i = 0; i < complaints->count; i++) tell(file, complaints->list[i].line, "%s", complaints->list[i].words);
     enum status status = complaints->count > 0 ? ANSWER_NO : to_rule(file, &drawing, !arguments->no_names, &loaded);
     complaints_free(&drawing.complaints);
-    return status == DONE ? write_file(arguments->output, file, loaded.bytes, loaded.len) : status;
+    return status == DONE ? write_file(arguments->output, sources, loaded.bytes, loaded.len) : status;
 }
 
 /* A rule file in place of a drawing: no drawing could be one. */
@@ -56,12 +56,12 @@ static bool is_rule_file(const uint8_t *bytes, size_t len) {
 enum status command_draw(const struct arguments *arguments) {
     uint8_t *text = room_for(NULL, DRAWING_MOST + 1);
     size_t len;
-    enum status status = read_file(arguments->operand[0], text, DRAWING_MOST + 1, &len);
+    enum status status = read_file(arguments->file[0], text, DRAWING_MOST + 1, &len);
     if (status == DONE && len > DRAWING_MOST) {
-        tell(arguments->operand[0], 0, "is longer than %d bytes: that is no drawing", DRAWING_MOST);
+        tell(arguments->file[0], 0, "is longer than %d bytes: that is no drawing", DRAWING_MOST);
         status = ANSWER_NO;
     } else if (status == DONE && is_rule_file(text, len)) {
-        tell(arguments->operand[0], 0, "is a rule file, and no drawing in text: pachallu text writes its drawing");
+        tell(arguments->file[0], 0, "is a rule file, and no drawing in text: pachallu text writes its drawing");
         status = ANSWER_NO;
     } else if (status == DONE) {
         status = draw_text(arguments, text, len);

@@ -54,7 +54,7 @@ static void put_arrow(struct sink *out, const struct loaded *loaded, size_t from
 
 enum status command_picture(const struct arguments *arguments) {
     static struct loaded loaded;
-    enum status status = load_accepted(arguments->operand[0], &loaded);
+    enum status status = load_accepted(&arguments->rule, &loaded);
     if (status != DONE) return status;
     struct sink out = sink_to(STDOUT_FILENO);
     const struct rule *rule = &loaded.rule;

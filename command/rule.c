@@ -1,9 +1,11 @@
 /* rule.c: a rule taken out of its file, or about to be written into one, and what the library says of it. */
 #include "rule.h"
 
+#include <stdio.h>
 #include <stdlib.h>
 #include <string.h>
 
+#include "rulebook.h"
 #include "words.h"
 
 const char *const class_words[CLASSES] = {NULL, "safety", "guarantee", "obligation", "response"};
@@ -86,20 +88,46 @@ void judge(struct loaded *loaded) {
     if (loaded->made.refusal == 0 || loaded->made.refusal > 4) take_apart(loaded->bytes, loaded->len, &loaded->rule);
 }
 
-enum status load(const char *file, struct loaded *loaded) {
-    loaded->file = file;
-    enum status status = read_file(file, loaded->bytes, sizeof loaded->bytes, &loaded->len);
+void load_bytes(struct loaded *loaded, const uint8_t *bytes, size_t len) {
+    loaded->len = len < sizeof loaded->bytes ? len : sizeof loaded->bytes;
+    memcpy(loaded->bytes, bytes, loaded->len);
+    judge(loaded);
+}
+
+static enum status load_from_books(const struct source *from, struct loaded *loaded) {
+    struct found found;
+    enum status status = find_rule(from, &found);
+    if (status == DONE) {
+        loaded->file = found.in->file;
+        snprintf(loaded->part, sizeof loaded->part, "rule %u, age %u: ", from->number, from->age);
+        load_bytes(loaded, found.in->bytes + found.place, found.length);
+    }
+    found_free(&found);
+    return status;
+}
+
+enum status load(const struct source *from, struct loaded *loaded) {
+    if (!from->file) return load_from_books(from, loaded);
+    loaded->file = from->file;
+    loaded->part[0] = 0;
+    enum status status = read_file(from->file, loaded->bytes, sizeof loaded->bytes, &loaded->len);
     if (status == DONE) judge(loaded);
     return status;
 }
 
-enum status load_accepted(const char *file, struct loaded *loaded) {
+enum status load_accepted(const struct source *from, struct loaded *loaded) {
     char words[REFUSAL_WORDS];
-    enum status status = load(file, loaded);
+    enum status status = load(from, loaded);
     if (status != DONE || loaded->made.refusal == 0) return status;
     refusal_words(loaded, words);
-    tell(file, 0, "%s", words);
+    tell(loaded->file, 0, "%s%s", loaded->part, words);
     return ANSWER_NO;
+}
+
+void source_files(const struct source *from, const char *files[3]) {
+    files[0] = from->file ? from->file : from->office;
+    files[1] = from->file ? NULL : from->job;
+    files[2] = NULL;
 }
 
 uint64_t stopping_states(const struct loaded *loaded) {

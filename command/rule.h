@@ -29,9 +29,17 @@ bool is_accepting(const struct rule *rule, size_t state);
 /* The file of a rule, names and all; 0 where the note would be over NOTE_MOST bytes. `note_len` is what it takes. */
 size_t rule_to_file(const struct rule *rule, bool with_names, uint8_t bytes[PACHALLU_RULE_MAX], size_t *note_len);
 
-/* A file that was read, and its answer: a refusal with the rule's places, or the rule's sheet. */
+/* Where a rule is taken from: a file of its own; or rule books, by its number and age. */
+struct source {
+    const char *file;         /* NULL: from books */
+    const char *office, *job; /* job NULL: the job has no book */
+    unsigned number, age;
+};
+
+/* What was read from there, and its answer: a refusal with the rule's places, or the rule's sheet. */
 struct loaded {
-    const char *file;
+    const char *file;                     /* the rule's own, or the book that has it */
+    char part[32];                        /* "rule 7, age 0: " of a book; else nothing */
     uint8_t bytes[PACHALLU_RULE_MAX + 1]; /* one more shows a file that is too long */
     size_t len;
     uint8_t sheet[PACHALLU_SHEET_MAX];
@@ -41,10 +49,15 @@ struct loaded {
 
 /* Asks the library about the bytes, and takes the rule out of them. */
 void judge(struct loaded *loaded);
-/* Reads a rule file. DONE: read, and accepted or refused; FAILED, and told: it could not be read. */
-enum status load(const char *file, struct loaded *loaded);
+/* Puts a rule's bytes there, as many as show whether they are too many, and judges them. */
+void load_bytes(struct loaded *loaded, const uint8_t *bytes, size_t len);
+/* Reads a rule. DONE: read, and accepted or refused. FAILED, and told: it could not be read. ANSWER_NO, and told: the books do not
+ * have it. */
+enum status load(const struct source *from, struct loaded *loaded);
 /* The same, where only an accepted rule will do; a refused one is told and is ANSWER_NO. */
-enum status load_accepted(const char *file, struct loaded *loaded);
+enum status load_accepted(const struct source *from, struct loaded *loaded);
+/* The files that were read for it, and a NULL. */
+void source_files(const struct source *from, const char *files[3]);
 
 /* The stopping states of a loaded rule, as the proved text tells them. */
 uint64_t stopping_states(const struct loaded *loaded);

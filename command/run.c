@@ -176,12 +176,7 @@ static enum status run_book(struct course *c) {
 enum status command_run(const struct arguments *arguments) {
     static struct loaded loaded;
     static struct course c;
-    const char *rule = arguments->operand[0], *book = arguments->operand[1];
-    if (strcmp(rule, "-") == 0 && strcmp(book, "-") == 0) {
-        tell(NULL, 0, "run: the rule and the book cannot both be standard input");
-        return FAILED;
-    }
-    enum status status = load_accepted(rule, &loaded);
+    enum status status = load_accepted(&arguments->rule, &loaded);
     if (status != DONE) return status;
     c.loaded = &loaded;
     c.tell_each = arguments->tell_each;
@@ -190,7 +185,7 @@ enum status command_run(const struct arguments *arguments) {
     pachallu_start start = pachallu_fresh(loaded.sheet, loaded.made.written);
     c.state = start.state;
     c.held = start.held;
-    status = codes_open(&c.book, book, &loaded.rule.names, &c.out) ? run_book(&c) : FAILED;
+    status = codes_open(&c.book, arguments->file[0], &loaded.rule.names, &c.out) ? run_book(&c) : FAILED;
     free(c.memory);
     free(c.output);
     return end_output(&c.out, status);

@@ -9,10 +9,11 @@
 #include <stdio.h>
 #include <stdlib.h>
 #include <string.h>
+#include <sys/file.h>
 #include <sys/stat.h>
 #include <unistd.h>
 
-enum { SINK_SIZE = 1 << 16, SHOWN = 8, SHOWN_BYTES = 320, WORD_SHOWN = 80, LINE_SHOWN = 240 };
+enum { SINK_SIZE = 1 << 16, FIRST_ROOM = 1 << 16, SHOWN = 8, SHOWN_BYTES = 320, WORD_SHOWN = 80, LINE_SHOWN = 240 };
 
 void ready_streams(void) {
     /* the wrong way round, so that a use of them still fails */
@@ -42,7 +43,7 @@ void tell(const char *file, size_t line, const char *format, ...) {
     char text[4096] = "pachallu: ";
     size_t used = strlen(text), most = sizeof text - 1;
     va_list words;
-    if (file) used += (size_t)sprintf(text + used, "%s: ", strcmp(file, "-") == 0 ? "standard input" : visible(file, strlen(file)));
+    if (file) used += (size_t)sprintf(text + used, "%s: ", file_words(file));
     if (line) used += (size_t)sprintf(text + used, "line %zu: ", line);
     va_start(words, format);
     int len = vsnprintf(text + used, most - used, format, words);
@@ -96,6 +97,8 @@ static const char *shown(const uint8_t *bytes, size_t len, const char *mark, siz
 const char *quoted(const void *bytes, size_t len) { return shown(bytes, len, "\"", WORD_SHOWN); }
 
 const char *visible(const void *bytes, size_t len) { return shown(bytes, len, "", LINE_SHOWN); }
+
+const char *file_words(const char *file) { return strcmp(file, "-") == 0 ? "standard input" : visible(file, strlen(file)); }
 
 void *room_for(void *old, size_t size) {
     void *new = realloc(old, size);
@@ -171,14 +174,35 @@ long read_some(int fd, const char *file, uint8_t *bytes, size_t most) {
     }
 }
 
-enum status read_file(const char *file, uint8_t *bytes, size_t most, size_t *len) {
-    int fd = open_input(file);
-    if (fd < 0) return FAILED;
+/* Reads on until there are `most` bytes; 0 at the end, -1 when it failed, which is told. */
+static long read_up_to(int fd, const char *file, uint8_t *bytes, size_t most, size_t *len) {
     long got = 1;
-    *len = 0;
     while (*len < most && got > 0) {
         got = read_some(fd, file, bytes + *len, most - *len);
         if (got > 0) *len += (size_t)got;
+    }
+    return got;
+}
+
+enum status read_file(const char *file, uint8_t *bytes, size_t most, size_t *len) {
+    int fd = open_input(file);
+    *len = 0;
+    if (fd < 0) return FAILED;
+    long got = read_up_to(fd, file, bytes, most, len);
+    if (fd != STDIN_FILENO) close(fd);
+    return got < 0 ? FAILED : DONE;
+}
+
+enum status read_whole(const char *file, size_t most, uint8_t **bytes, size_t *len) {
+    int fd = open_input(file);
+    long got = 1;
+    *bytes = NULL;
+    *len = 0;
+    if (fd < 0) return FAILED;
+    for (size_t room = FIRST_ROOM; got > 0 && *len < most; room *= 2) {
+        if (room > most) room = most;
+        *bytes = room_for(*bytes, room);
+        got = read_up_to(fd, file, *bytes, room, len);
     }
     if (fd != STDIN_FILENO) close(fd);
     return got < 0 ? FAILED : DONE;
@@ -244,7 +268,31 @@ static bool same_file(const char *source, const struct stat *old) {
     return strcmp(source, "-") != 0 && stat(source, &read) == 0 && read.st_dev == old->st_dev && read.st_ino == old->st_ino;
 }
 
-enum status write_file(const char *file, const char *source, const uint8_t *bytes, size_t len) {
+void hold_file(const char *file) {
+    struct stat held, named;
+    while (is_old_file(file)) {
+        int fd = open(file, O_RDONLY | O_NOCTTY);
+        if (fd < 0) return;
+        while (flock(fd, LOCK_EX) != 0)
+            if (errno != EINTR) return;
+        /* whoever held it may have put another file in its place */
+        if (fstat(fd, &held) != 0 || (stat(file, &named) == 0 && held.st_dev == named.st_dev && held.st_ino == named.st_ino))
+            return;
+        close(fd);
+    }
+}
+
+bool is_missing(const char *file) {
+    struct stat there;
+    return strcmp(file, "-") != 0 && stat(file, &there) != 0 && errno == ENOENT;
+}
+
+bool is_old_file(const char *file) {
+    struct stat there;
+    return strcmp(file, "-") != 0 && stat(file, &there) == 0 && S_ISREG(there.st_mode);
+}
+
+enum status write_file(const char *file, const char *const *sources, const uint8_t *bytes, size_t len) {
     struct stat old;
     int error = 0;
     if (!file || strcmp(file, "-") == 0) return write_standard_output(file, bytes, len);
@@ -254,7 +302,8 @@ enum status write_file(const char *file, const char *source, const uint8_t *byte
     }
     if (S_ISDIR(old.st_mode)) return cannot_write(file, EISDIR);
     if (!S_ISREG(old.st_mode)) return write_in_place(file, bytes, len);
-    if (same_file(source, &old)) {
+    for (; *sources; sources++) {
+        if (!same_file(*sources, &old)) continue;
         tell(file, 0, "is the file that was read, and is not written over: name another one with -o FILE");
         return FAILED;
     }

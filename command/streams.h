@@ -9,7 +9,7 @@
 /* What the command exits with. */
 enum status {
     DONE = 0,
-    ANSWER_NO = 1, /* a rule, drawing or book that is refused; codes that are halted or held */
+    ANSWER_NO = 1, /* a rule, drawing or book that is refused, or has no such rule; codes that are halted or held */
     FAILED = 2     /* bad use, or a read or write that failed */
 };
 
@@ -30,6 +30,8 @@ void tell(const char *file, size_t line, const char *format, ...) PRINTF_LIKE(3,
 const char *quoted(const void *bytes, size_t len);
 /* The same without the marks. */
 const char *visible(const void *bytes, size_t len);
+/* A file that is read, as a message calls it. */
+const char *file_words(const char *file);
 /* How many bytes the visible character at the front of `bytes` takes; 0 if there is none: a control byte, a character that has
  * no ink or no width of its own, or no UTF-8. A space counts as visible. */
 size_t visible_bytes(const uint8_t *bytes, size_t len);
@@ -55,14 +57,23 @@ enum status end_output(struct sink *out, enum status status);
 
 /* Reads a file, or standard input for "-", up to `most` bytes and no further. Tells what went wrong and answers FAILED then. */
 enum status read_file(const char *file, uint8_t *bytes, size_t most, size_t *len);
+/* The same for a file that may be long: into room of its own, which grows with it and is to be freed, also where it FAILED. */
+enum status read_whole(const char *file, size_t most, uint8_t **bytes, size_t *len);
 /* Opens a file for reading, standard input for "-"; -1 when it cannot be, which it tells. */
 int open_input(const char *file);
 /* One read of an open file; 0 at the end; -1 when it failed, which it tells. */
 long read_some(int fd, const char *file, uint8_t *bytes, size_t most);
 
-/* Puts the bytes into a file as a whole: an old file stays as it was until all of the new one is written. `source` is the file
- * that was read: it is never written over. Standard output for "-" and NULL, but not into a terminal for NULL. */
-enum status write_file(const char *file, const char *source, const uint8_t *bytes, size_t len);
+/* Puts the bytes into a file as a whole: an old file stays as it was until all of the new one is written. `sources` are the files
+ * that were read, up to a NULL: they are never written over. Standard output for "-" and NULL, but not into a terminal for NULL. */
+enum status write_file(const char *file, const char *const *sources, const uint8_t *bytes, size_t len);
+/* Waits until nobody else holds this ordinary file, and holds it until the command ends: of two that replace it, the second one
+ * reads what the first has written. Nothing is held where it cannot be opened. */
+void hold_file(const char *file);
+/* Is there nothing of this name? */
+bool is_missing(const char *file);
+/* Is there an ordinary file of this name, which writing would replace? */
+bool is_old_file(const char *file);
 
 /* realloc that ends the command with FAILED and a message when there is no room. */
 void *room_for(void *old, size_t size);

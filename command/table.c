@@ -7,7 +7,7 @@
 enum status command_table(const struct arguments *arguments) {
     static struct loaded loaded;
     static uint8_t printed[PACHALLU_TEXT_MAX];
-    enum status status = load(arguments->operand[0], &loaded);
+    enum status status = load(&arguments->rule, &loaded);
     if (status != DONE) return status;
     pachallu_made made = pachallu_print(loaded.bytes, loaded.len, printed, sizeof printed);
     struct sink out = sink_to(STDOUT_FILENO);

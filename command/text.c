@@ -175,7 +175,7 @@ void put_drawing(struct sink *out, const struct rule *rule) {
 
 enum status command_text(const struct arguments *arguments) {
     static struct loaded loaded;
-    enum status status = load_accepted(arguments->operand[0], &loaded);
+    enum status status = load_accepted(&arguments->rule, &loaded);
     if (status != DONE) return status;
     struct sink out = sink_to(STDOUT_FILENO);
     put_drawing(&out, &loaded.rule);

@@ -1,4 +1,4 @@
-/* words.c: a refusal put into words, with the rule's own names and numbers. */
+/* words.c: a refusal put into words, with the rule's own names and numbers, or the book's. */
 #include "words.h"
 
 #include <stdarg.h>
@@ -29,14 +29,17 @@ static bool is_text(const uint8_t *bytes, size_t len) {
 }
 
 static void no_rule_file(struct growing *words, const struct loaded *l) {
+    const struct rulebook as_book = {NULL, (uint8_t *)l->bytes, l->len};
     if (l->len > PACHALLU_RULE_MAX)
         say(words, "this is no rule file: it has over %d bytes", PACHALLU_RULE_MAX);
     else if (l->len < 12)
-        say(words, "this is no rule file: it has %zu bytes, and the trailer alone has 12", l->len);
+        say(words, "this is no rule file: it has %zu byte%s, and the trailer alone has 12", l->len, l->len == 1 ? "" : "s");
     else
         say(words, "this is no rule file: its last two bytes are %u and %u; 72 and 82 are wanted", (unsigned)l->bytes[l->len - 2],
             (unsigned)l->bytes[l->len - 1]);
     if (is_text(l->bytes, l->len)) say(words, ". It is text: pachallu draw makes a rule file of a drawing in text");
+    if (l->len <= PACHALLU_RULE_MAX && is_rulebook(&as_book))
+        say(words, ". It is a rule book: --book BOOK --rule NUMBER takes a rule out of it");
 }
 
 static void out_of_range(struct growing *words, const uint8_t *trailer) {
@@ -126,6 +129,72 @@ void refusal_words(const struct loaded *l, char text[REFUSAL_WORDS]) {
     case 9: hopeless_start(&words, rule, a); break;
     default: say(&words, "%s (A %u, B %u)", pachallu_refusal_text(l->made.refusal), a, b);
     }
+}
+
+/* ---- rule books */
+
+enum { ENTRY = 8, COUNT = 2 };
+
+/* The first thing that is wrong in a directory that has room in its book. */
+static void wrong_directory(struct growing *words, const struct rulebook *book, size_t count) {
+    size_t directory = book->len - COUNT - ENTRY * count, taken = 0;
+    for (size_t at = 0; at < count; at++) {
+        struct entry entry = rulebook_entry(book, at);
+        if (entry.second != 0) {
+            say(words, "the second byte of entry %zu is %u; 0 is wanted", at + 1, entry.second);
+            return;
+        }
+        if (entry.distance + taken != book->len && taken <= directory) {
+            say(words, "entry %zu says that its rule begins %zu bytes before the end of the book; %zu are wanted: %s", at + 1,
+                entry.distance, book->len - taken,
+                at == 0 ? "the first rule stands at the front" : "the rules stand one after another");
+            return;
+        }
+        taken += entry.length;
+    }
+    say(words, "by its directory the rules take %zu bytes, and %zu stand before the directory", taken, directory);
+}
+
+void bad_book_words(const struct rulebook *book, char text[REFUSAL_WORDS]) {
+    struct growing words = {text, 0};
+    uint8_t sheet[PACHALLU_SHEET_MAX];
+    size_t count = book->len < COUNT ? 0 : rulebook_count(book), after = COUNT + ENTRY * count;
+    say(&words, "refused 17: this is no rule book: ");
+    if (book->len < COUNT)
+        say(&words, "it has %zu byte%s, and the count at its end alone has 2", book->len, book->len == 1 ? "" : "s");
+    else if (book->len > PACHALLU_BOOK_MAX)
+        say(&words, "it has over %d bytes", PACHALLU_BOOK_MAX);
+    else if (count > PACHALLU_BOOK_RULES_MAX)
+        say(&words, "its last two bytes say that it has %zu rules; %d are the most", count, PACHALLU_BOOK_RULES_MAX);
+    else if (book->len < after)
+        say(&words, "it has %zu bytes, and the directory of %zu rule%s takes %zu with the count", book->len, count,
+            count == 1 ? "" : "s", after);
+    else
+        wrong_directory(&words, book, count);
+    if (pachallu_make(book->bytes, book->len, sheet, sizeof sheet).refusal == 0)
+        say(&words, ". It is a rule file: pachallu book add puts it into a rule book");
+    else if (book->len == 0 || is_text(book->bytes, book->len))
+        say(&words, ". It is %s: pachallu book new begins a rule book", book->len == 0 ? "empty" : "text");
+}
+
+void not_found_words(const struct rulebook *job, const struct rulebook *office, const struct source *from,
+                     char text[REFUSAL_WORDS]) {
+    struct growing words = {text, 0};
+    size_t in_job = rulebook_ages(job, from->number), ages = in_job > 0 ? in_job : rulebook_ages(office, from->number);
+    say(&words, "refused 18: ");
+    if (ages == 0)
+        say(&words, "it has no rule %u", from->number);
+    else
+        say(&words, "its rule %u has %s%zu%s, and none is of age %u", from->number, ages == 1 ? "the age " : "the ages 0 to ",
+            ages - 1, ages == 1 ? " alone" : "", from->age);
+    if (ages == 0 && job->file) say(&words, ", nor has the job's book %s", file_words(job->file));
+    if (in_job > 0 && rulebook_ages(office, from->number) > 0)
+        say(&words, "; the office's book is not asked for a number that the job's has");
+}
+
+const char *not_added_words(uint8_t refusal) {
+    return refusal == 26 ? "refused 26: it has 1024 rules, the most that a rule book has: begin another one with pachallu book new"
+                         : pachallu_refusal_text(refusal);
 }
 
 const char *not_taken_words(uint8_t refusal) {

@@ -16,7 +16,7 @@ use library::{Answer, Made};
 
 /// What is counted has no test for empty buffers (host/library.rs).
 pub const NULL_FOR_EMPTY: bool = false;
-use monitor::{Pair, Rule, Run};
+use monitor::{Filed, Pair, Rule, Run};
 use std::arch::asm;
 
 const MARK: u64 = 0x70616368;
@@ -110,7 +110,26 @@ impl Bench {
     }
 }
 
+impl Bench {
+    /// A lookup in two full books.
+    fn finding(&mut self, case: &str, job: &[u8], office: &[u8], number: u8, age: u16) {
+        let answers = [library::find(job, office, number, age), plain::find(job, office, number, age)];
+        let second = monitor::find(job, office, number, age);
+        assert!(answers[0] == answers[1] && (answers[0].refusal == 0) == second.is_ok(), "{}: {:?} and {:?}", case, answers, second);
+        let turns = [(); 3];
+        self.drive(case, "loop", &turns, |_| keep(&(unknown(job), unknown(office), number, age)));
+        self.drive(case, "library", &turns, |_| keep(&library::find(unknown(job), unknown(office), number, age)));
+        self.drive(case, "plain", &turns, |_| keep(&plain::find(unknown(job), unknown(office), number, age)));
+    }
+}
+
 // ---------------------------------------------------------------------------------------------- the cases
+
+/// A book of 1,024 rules: the oldest and the newest under the number that is given, the others under the numbers after it.
+fn full_book(number: u8) -> Vec<u8> {
+    let under = |i: usize| if i == 0 || i == 1023 { number } else { number + 1 + (i % 100) as u8 };
+    monitor::book(&(0..1024).map(|i| Filed { number: under(i), rule: vec![i as u8; i % 8] }).collect::<Vec<_>>())
+}
 
 fn rule(class: usize, rows: Vec<Vec<usize>>, pairs: Vec<Pair>) -> Rule {
     Rule { class, states: rows.len(), events: rows[0].len(), initial: 0, note: vec![], rows, pairs }
@@ -189,6 +208,11 @@ fn main() {
     bench.events("one event, all store", &waiting, &steps(&|i| (0, i % 64, 0)));
     bench.events("one event, halting", &setups, &steps(&|i| (2, i % 3, (i % 3) as u8)));
     bench.events("one event, days of a crew", &setups, &days(&setups, 4096));
+    let (job, office) = (full_book(1), full_book(150));
+    bench.finding("a lookup, newest of the job's book", &job, &office, 1, 0);
+    bench.finding("a lookup, oldest of the job's book", &job, &office, 1, 1);
+    bench.finding("a lookup, oldest of the office's book", &job, &office, 150, 1);
+    bench.finding("a lookup, in neither book", &job, &office, 0, 0);
     for (name, rule) in [("random", by_chance()), ("chain", chain()), ("self-loops", self_loops())] {
         bench.making(&format!("reading, {}", name), &rule, 0);
         bench.making(&format!("making a sheet, {}", name), &rule, 2054);

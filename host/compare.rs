@@ -6,8 +6,9 @@
 //! seed, so a run can be repeated. Every answer and every byte of every buffer, guard bytes around it included, must
 //! be equal; each history on a made sheet is judged by the oracle; what the program `table` prints is compared where
 //! the environment variable PACHALLU_TABLE holds the shell words that start it. The run fails, too, where one of the
-//! refusals 1 to 9 and 11 to 16 was met fewer than 20 times.
+//! refusals 1 to 9 and 11 to 18 and 26 was met fewer than 20 times.
 
+mod books;
 mod dice;
 mod draw;
 mod library;
@@ -144,6 +145,7 @@ struct Comparison {
     table: Option<String>,
     /// The rule file that the calls at hand go back to.
     file: Vec<u8>,
+    books: books::BookCounts,
 }
 
 impl Comparison {
@@ -741,7 +743,7 @@ fn main() {
         exit(2);
     });
     let table = std::env::var("PACHALLU_TABLE").ok().filter(|words| !words.trim().is_empty());
-    let mut comparison = Comparison { counts: Counts::default(), table, file: vec![] };
+    let mut comparison = Comparison { counts: Counts::default(), table, file: vec![], books: Default::default() };
     let fail = |fault: &str, file: &[u8], said: &str, rerun: &str| -> ! {
         let shown = if file.len() > 4096 { &file[file.len() - 4096..] } else { file };
         eprintln!("host: the proved side and the second monitor do not agree\n  {}\n  rule file {} {}", fault, said, hex(shown));
@@ -764,13 +766,14 @@ fn main() {
         if i % 2 == 1 && monitor::read(&file).is_ok() {
             comparison.counts.damaged_but_sound += 1;
         }
-        if let Err(fault) = comparison.file(&mut dice, &file) {
+        if let Err(fault) = comparison.file(&mut dice, &file).and_then(|_| comparison.books(&mut dice, &file)) {
             let rerun = format!("--seed {} --only {}", order.seed, i);
             fail(&fault, &comparison.file, &format!("{}, {}", i, said), &rerun);
         }
     }
     let c = &comparison.counts;
     report(c);
+    books::report(&comparison.books);
     let printing = comparison.table.is_some();
     let printed = c.printed_sound.iter().sum::<usize>() + c.printed_refused.iter().sum::<usize>() + c.printed_other;
     if printing {
@@ -785,7 +788,8 @@ fn main() {
         println!("printed      no texts: PACHALLU_TABLE does not say how to start the program");
     }
     if order.only.is_none() {
-        let faults = lacking(c, printing);
+        let mut faults = lacking(c, printing);
+        faults.extend(books::lacking(&comparison.books));
         if !faults.is_empty() {
             eprintln!("host: the comparison did not try enough\n  {}", faults.join("\n  "));
             exit(1);

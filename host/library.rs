@@ -32,9 +32,30 @@ pub struct Answer {
     pub released: usize,
 }
 
+#[repr(C)]
+#[derive(Clone, Copy, PartialEq, Eq, Debug)]
+pub struct Found {
+    pub refusal: u8,
+    pub a: u8,
+    pub b: u8,
+    pub book: u8,
+    pub start: usize,
+    pub length: usize,
+}
+
 extern "C" {
     fn pachallu_make(rule: *const u8, rule_len: usize, sheet: *mut u8, sheet_len: usize) -> Made;
     fn pachallu_print(rule: *const u8, rule_len: usize, text: *mut u8, text_len: usize) -> Made;
+    fn pachallu_find(job: *const u8, job_len: usize, office: *const u8, office_len: usize, number: u8, age: u16) -> Found;
+    fn pachallu_add(
+        book: *const u8,
+        book_len: usize,
+        number: u8,
+        rule: *const u8,
+        rule_len: usize,
+        out: *mut u8,
+        out_len: usize,
+    ) -> Made;
     fn pachallu_fresh(sheet: *const u8, sheet_len: usize) -> Start;
     fn pachallu_event(
         sheet: *const u8,
@@ -76,6 +97,16 @@ pub fn make(rule: &[u8], sheet: &mut [u8]) -> Made {
 #[inline(always)]
 pub fn print(rule: &[u8], text: &mut [u8]) -> Made {
     unsafe { pachallu_print(start(rule), rule.len(), start_mut(text), text.len()) }
+}
+
+#[inline(always)]
+pub fn find(job: &[u8], office: &[u8], number: u8, age: u16) -> Found {
+    unsafe { pachallu_find(start(job), job.len(), start(office), office.len(), number, age) }
+}
+
+#[inline(always)]
+pub fn add(book: &[u8], number: u8, rule: &[u8], out: &mut [u8]) -> Made {
+    unsafe { pachallu_add(start(book), book.len(), number, start(rule), rule.len(), start_mut(out), out.len()) }
 }
 
 #[inline(always)]

@@ -321,6 +321,101 @@ pub fn write(rule: &Rule, output: &mut [u8]) -> Result<usize, Refusal> {
     put(&layout(rule), output)
 }
 
+// ---------------------------------------------------------------------------------------------- rule books
+
+/// The most entries of a book.
+pub const ENTRIES: usize = 1024;
+
+/// A rule file under its number, as it stands in a book.
+#[derive(Clone, PartialEq, Eq, Debug)]
+pub struct Filed {
+    pub number: u8,
+    pub rule: Vec<u8>,
+}
+
+/// The bytes that stand for a list, oldest first, whether a book may have so many entries or not.
+pub fn book(list: &[Filed]) -> Vec<u8> {
+    let size = list.iter().map(|x| x.rule.len() + 8).sum::<usize>() + 2;
+    let mut out: Vec<u8> = list.iter().flat_map(|x| x.rule.iter().copied()).collect();
+    let mut start = 0;
+    for x in list {
+        out.extend([x.number, 0]);
+        out.extend(&(x.rule.len() as u16).to_le_bytes());
+        out.extend(&((size - start) as u32).to_le_bytes());
+        start += x.rule.len();
+    }
+    out.extend(&(list.len() as u16).to_le_bytes());
+    out
+}
+
+/// Takes a book apart, and puts what it found together again: only what comes out as it was is a book.
+pub fn entries(bytes: &[u8]) -> Option<Vec<Filed>> {
+    let before = bytes.len().checked_sub(2)?;
+    let count = two_bytes(&bytes[before..]);
+    let end = before.checked_sub(8 * count)?;
+    let mut list = Vec::new();
+    let mut rest = &bytes[..end];
+    for entry in bytes[end..before].chunks(8) {
+        let size = two_bytes(&entry[2..4]);
+        if size > rest.len() {
+            return None;
+        }
+        let (rule, others) = rest.split_at(size);
+        list.push(Filed { number: entry[0], rule: rule.to_vec() });
+        rest = others;
+    }
+    if count <= ENTRIES && book(&list) == bytes {
+        Some(list)
+    } else {
+        None
+    }
+}
+
+/// Where a rule was found: 0 the job's book, 1 the office's; its first byte and its length.
+#[derive(Clone, Copy, PartialEq, Eq, Debug)]
+pub struct Place {
+    pub book: u8,
+    pub start: usize,
+    pub length: usize,
+}
+
+/// Looks a rule up in the job's book, or in the office's where the job has none: refusals 17, 18.
+pub fn find(job: &[u8], office: &[u8], number: u8, age: u16) -> Result<Place, Refusal> {
+    let mut books = Vec::new();
+    for (which, bytes) in [job, office].iter().enumerate() {
+        match entries(bytes) {
+            Some(list) => books.push(list),
+            None => return refuse_at(17, which, 0),
+        }
+    }
+    for (which, list) in books.iter().enumerate() {
+        let mut places = Vec::new();
+        let mut start = 0;
+        for x in list {
+            if x.number == number {
+                places.push(Place { book: which as u8, start, length: x.rule.len() });
+            }
+            start += x.rule.len();
+        }
+        if !places.is_empty() {
+            places.reverse();
+            return places.get(age as usize).copied().map_or_else(|| refuse(18), Ok);
+        }
+    }
+    refuse(18)
+}
+
+/// Writes a book with one rule more at the front of the output: refusals 17, 1 to 10, 26, 16.
+pub fn add(bytes: &[u8], number: u8, rule: &[u8], output: &mut [u8]) -> Result<usize, Refusal> {
+    let mut list = entries(bytes).map_or_else(|| refuse_at(17, 0, 0), Ok)?;
+    read(rule)?;
+    if list.len() == ENTRIES {
+        return refuse(26);
+    }
+    list.push(Filed { number, rule: rule.to_vec() });
+    put(&book(&list), output)
+}
+
 // ---------------------------------------------------------------------------------------------- sheets
 
 /// The sheet of a sound rule.

@@ -3,7 +3,7 @@
 //! `read`, `make` and `event` are written as one would write them from the paper; `read_best` and `make_best` use the
 //! best algorithms we know. Sets of states are 64-bit numbers throughout.
 
-use crate::library::{Answer, Made};
+use crate::library::{Answer, Found, Made};
 
 #[derive(Clone, Copy)]
 pub struct Refusal {
@@ -363,4 +363,55 @@ pub fn event(sheet: &[u8], state: u8, held: usize, event: u8, memory: &mut [u8],
         Ok(t) => Answer { refusal: 0, a: 0, b: 0, operation: t.operation, state: t.state, held: t.held, released: t.released },
         Err(r) => Answer { refusal: r.no, a: r.a, b: r.b, operation: 0, state, held, released: 0 },
     }
+}
+
+/// The directory of a book whose rules fill it: refusal 17.
+fn directory(book: &[u8]) -> Option<&[u8]> {
+    let before = book.len().checked_sub(2)?;
+    let count = u16::from_le_bytes([book[before], book[before + 1]]) as usize;
+    if count > 1024 {
+        return None;
+    }
+    let end = before.checked_sub(8 * count)?;
+    let entries = &book[end..before];
+    let mut start = 0;
+    for e in entries.chunks_exact(8) {
+        if e[1] != 0 || u32::from_le_bytes([e[4], e[5], e[6], e[7]]) as usize + start != book.len() {
+            return None;
+        }
+        start += u16::from_le_bytes([e[2], e[3]]) as usize;
+    }
+    if start == end {
+        Some(entries)
+    } else {
+        None
+    }
+}
+
+/// Looks a rule up: refusals 17 and 18.
+#[inline(never)]
+pub fn find(job: &[u8], office: &[u8], number: u8, age: u16) -> Found {
+    let refused = |refusal, a| Found { refusal, a, b: 0, book: 0, start: 0, length: 0 };
+    let jobs = match directory(job) {
+        Some(entries) => entries,
+        None => return refused(17, 0),
+    };
+    let offices = match directory(office) {
+        Some(entries) => entries,
+        None => return refused(17, 1),
+    };
+    for (book, bytes, entries) in [(0, job, jobs), (1, office, offices)] {
+        let mut older = age;
+        for e in entries.chunks_exact(8).rev().filter(|e| e[0] == number) {
+            if older == 0 {
+                let start = bytes.len() - u32::from_le_bytes([e[4], e[5], e[6], e[7]]) as usize;
+                return Found { refusal: 0, a: 0, b: 0, book, start, length: u16::from_le_bytes([e[2], e[3]]) as usize };
+            }
+            older -= 1;
+        }
+        if older != age {
+            break;
+        }
+    }
+    refused(18, 0)
 }

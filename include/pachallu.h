@@ -28,19 +28,34 @@
  * the held bytes alone. The memory's other bytes are yours between calls. Several runs may share one sheet; each has its own
  * state, held and memory. The calls are safe in several threads at once as long as no buffer that is written is shared.
  *
+ * A RULE BOOK keeps rule files under numbers from 0 to 255; docs/FORMATS.md has its bytes. Two bytes 0 are the book of no rules.
+ * pachallu_add writes a book with one rule more. A number may be added again: the latest rule is in force, at age 0, and the ones
+ * before it stay readable at age 1, 2 and so on. pachallu_find looks a number up in a job's book and, where that has none, in the
+ * office's, and says where the rule stands; nothing is copied:
+ *
+ *     pachallu_found f = pachallu_find(job, job_len, office, office_len, number, 0);
+ *     if (f.refusal) ...
+ *     const uint8_t *rule = (f.book ? office : job) + f.start;
+ *     pachallu_made made = pachallu_make(rule, f.length, sheet, sizeof sheet);
+ *
+ * Both books are always checked, the job's first. The age counts within the book that is used: the job's if it has the number at
+ * all. A lookup does not judge the rule, pachallu_make does; a rule that pachallu_add put in is never refused by it but for room.
+ *
  * BUFFERS belong to the caller; the library keeps no pointer after a call, allocates nothing and frees nothing. Each buffer is a
  * pointer and its length in bytes.
  *   - The buffers of one call must not overlap, neither in part nor as a whole. (Several calls may use the same buffer.)
  *   - A buffer of length 0 is never touched, and its pointer may be NULL, as C++ callers have it (an empty vector's data()). A length of 0
  *     is fine everywhere, and is answered by a refusal where bytes were needed. With any other length the pointer must be valid.
  *   - `const` buffers are only read.
- *   - Nothing outside of what an answer names is written: pachallu_make writes sheet[0] to sheet[written - 1]; a store writes the
- *     one byte memory[held] (held as it was given); a dump writes output[0] to output[released - 1]; a halt writes nothing.
+ *   - Nothing outside of what an answer names is written: pachallu_make writes sheet[0] to sheet[written - 1],
+ *     pachallu_add out[0] to out[written - 1]; a store writes the one byte memory[held] (held as it was given); a dump writes
+ *     output[0] to output[released - 1]; a halt and pachallu_find write nothing.
  *
- * A REFUSAL (`refusal` not 0) changes no byte of any buffer. A refused make has written 0; a refused start has state 0 and
- * held 0; a refused event returns the state and held that it was given, with operation 0 and released 0: look at `refusal`
- * before `operation`. A refused event is not taken: the same or another one may be offered next, for instance with a longer
- * output. `a` and `b` are the two places of the table below, 0 where none is named.
+ * A REFUSAL (`refusal` not 0) changes no byte of any buffer. A refused make or add has written 0; a refused find has book, start
+ * and length 0 (a rule that was found may have length 0 too: look at `refusal`); a refused start has state 0 and held 0; a
+ * refused event returns the state and held that it was given, with operation 0 and released 0: look at `refusal` before
+ * `operation`. A refused event is not taken: the same or another one may be offered next, for instance with a longer output.
+ * `a` and `b` are the two places of the table below, 0 where none is named.
  *
  *     no.  given when                                                                        a, b
  *      1   rule file under 12 or over 3,212 bytes, or its last two bytes are not 72, 82
@@ -62,8 +77,14 @@
  *     14   the sheet's cell is spoiled                                                       state, event
  *     15   to be stored, but the memory is full
  *     16   the output has too little room
+ *     17   this is no rule book: its count is missing or over 1,024, the directory is        0 the job's book, 1 the office's;
+ *          longer than the book, an entry's second byte is not 0, or the rules, in the       0 for the book of pachallu_add
+ *          order of the entries, do not exactly fill the book up to the directory
+ *     18   neither book has the number, or the book that is used has no such age
+ *     26   the book has 1,024 entries already
  *
  * pachallu_make gives 1 to 10, then 16; pachallu_fresh gives 11; pachallu_event gives 11 to 16; always the first that holds.
+ * pachallu_find gives 17, then 18; pachallu_add gives 17, 1 to 10, 26, then 16, in this order.
  * pachallu_print tells 1 to 10 in its text, and gives 16. pachallu_refusal_text puts a number into words.
  *
  * The library is x86-64 code for Linux. Usable from C99 and C++.
@@ -89,6 +110,10 @@ extern "C" {
 #define PACHALLU_EVENTS_MAX 32
 #define PACHALLU_PAIRS_MAX 8
 
+/* The most rules of a rule book, and the longest book. */
+#define PACHALLU_BOOK_RULES_MAX 1024
+#define PACHALLU_BOOK_MAX 67116034
+
 /* pachallu_answer.operation */
 #define PACHALLU_HALT 0
 #define PACHALLU_STORE 1
@@ -97,7 +122,7 @@ extern "C" {
 typedef struct {
     uint8_t refusal; /* 0: done */
     uint8_t a, b;    /* places of a refusal */
-    size_t written;  /* bytes at the front of the sheet: states * events + 6 */
+    size_t written;  /* bytes at the front of the output; of a sheet: states * events + 6 */
 } pachallu_made;
 
 typedef struct {
@@ -126,6 +151,25 @@ pachallu_start pachallu_fresh(const uint8_t *sheet, size_t sheet_len);
 pachallu_answer pachallu_event(const uint8_t *sheet, size_t sheet_len, uint8_t state, size_t held, uint8_t event,
                                uint8_t *memory, size_t memory_len, uint8_t *output, size_t output_len);
 
+/* Where a rule stands that was looked up. */
+typedef struct {
+    uint8_t refusal; /* 0: found */
+    uint8_t a, b;    /* places of a refusal */
+    uint8_t book;    /* 0: in the job's book, 1: in the office's */
+    size_t start;    /* the rule's first byte in that book, */
+    size_t length;   /* and its length in bytes */
+} pachallu_found;
+
+/* Looks a rule up in two rule books, by its number and age: in the job's where that has the number at all, else in the office's. For a
+ * lookup in one book let the other be the two bytes 0. */
+pachallu_found pachallu_find(const uint8_t *job, size_t job_len, const uint8_t *office, size_t office_len, uint8_t number,
+                             uint16_t age);
+
+/* Writes a rule book with one rule more, which is then in force under its number: book_len + rule_len + 8 bytes, `written`. The earlier
+ * rules' bytes stand where they stood. */
+pachallu_made pachallu_add(const uint8_t *book, size_t book_len, uint8_t number, const uint8_t *rule, size_t rule_len,
+                           uint8_t *out, size_t out_len);
+
 /* Prints a rule file's monitor, or its refusal, as the program table does. 16 where the text does not fit; PACHALLU_TEXT_MAX bytes are always enough. */
 pachallu_made pachallu_print(const uint8_t *rule, size_t rule_len, uint8_t *text, size_t text_len);
 
@@ -149,8 +193,14 @@ static inline const char *pachallu_refusal_text(uint8_t refusal) {
         "the sheet is spoiled at state A, event B",
         "the event is to be held, and the memory is full",
         "the output has too little room",
+        "this is no rule book: its count, its directory or its rules' lengths are wrong (A 0: the job's or the one added to, 1: the "
+        "office's)",
+        "neither book has a rule of this number, or the one that is used has none of this age",
+        0, 0, 0, 0, 0, 0, 0, /* 19 to 25 */
+        "the rule book has 1,024 rules already",
     };
-    return refusal < sizeof texts / sizeof texts[0] ? texts[refusal] : "this number is not known to this version";
+    const char *text = refusal < sizeof texts / sizeof texts[0] ? texts[refusal] : 0;
+    return text ? text : "this number is not known to this version";
 }
 
 #ifdef __cplusplus

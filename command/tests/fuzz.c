@@ -1,15 +1,17 @@
-/* fuzz: reads spoiled drawings and spoiled rule files for some seconds, with the sanitizers compiled in.
+/* fuzz: reads spoiled drawings, rule files and rule books for some seconds, with the sanitizers compiled in.
  *
  *     fuzz SECONDS FILE..
  *
- * FILE is a drawing (.draw) or a rule file (.rule). The same changes every time, as many as the time allows. Of every drawing that
- * is accepted: its rule file, written as text and read again, is the same file. Of every rule file that is accepted: the same.
+ * FILE is a drawing (.draw), a rule file (.rule) or a rule book (.rules). The same changes every time, as many as the time allows.
+ * Of every drawing that is accepted: its rule file, written as text and read again, is the same file. Of every rule file that is
+ * accepted: the same. Of every rule book: it is listed or its fault is told, and each entry is found by its number and age.
  */
 #include <stdio.h>
 #include <stdlib.h>
 #include <string.h>
 #include <time.h>
 
+#include "../book.h"
 #include "../drawing.h"
 #include "../text.h"
 #include "../words.h"
@@ -19,11 +21,11 @@ enum { SEEDS = 1000, LONGEST = 20000 };
 struct seed {
     uint8_t *bytes;
     size_t len;
-    bool is_rule;
+    void (*try)(const uint8_t *bytes, size_t len);
 };
 
 static struct seed seeds[SEEDS];
-static size_t seed_count, drawings, drawn, rules, accepted;
+static size_t seed_count, drawings, drawn, rules, accepted, books, sound;
 static uint64_t dice_state = 88172645463325252u;
 
 static size_t dice(size_t most) {
@@ -41,6 +43,11 @@ static void fail(const char *what, const uint8_t *bytes, size_t len) {
     }
     fprintf(stderr, "fuzz: %s; the input is in fuzz.failed, %zu bytes\n", what, len);
     abort();
+}
+
+static void no_control_bytes(const char *words, const uint8_t *input, size_t len) {
+    for (; *words; words++)
+        if ((unsigned char)*words < 32) fail("a message has a control byte", input, len);
 }
 
 /* An accepted rule: through its text and back. */
@@ -70,8 +77,7 @@ static void judge_and_tell(struct loaded *loaded, const uint8_t *input, size_t l
         round_trip(loaded, input, len);
     } else {
         refusal_words(loaded, words);
-        for (const char *at = words; *at; at++)
-            if ((unsigned char)*at < 32) fail("a message has a control byte", input, len);
+        no_control_bytes(words, input, len);
     }
 }
 
@@ -81,9 +87,7 @@ static void try_drawing(const uint8_t *bytes, size_t len) {
     size_t note;
     drawings++;
     drawing_read(bytes, len, &drawing);
-    for (size_t i = 0; i < drawing.complaints.count; i++)
-        for (const char *at = drawing.complaints.list[i].words; *at; at++)
-            if ((unsigned char)*at < 32) fail("a message has a control byte", bytes, len);
+    for (size_t i = 0; i < drawing.complaints.count; i++) no_control_bytes(drawing.complaints.list[i].words, bytes, len);
     if (drawing.complaints.count == 0) {
         drawn++;
         loaded.len = rule_to_file(&drawing.rule, true, loaded.bytes, &note);
@@ -100,6 +104,36 @@ static void try_rule(const uint8_t *bytes, size_t len) {
     loaded.len = len < sizeof loaded.bytes ? len : sizeof loaded.bytes;
     memcpy(loaded.bytes, bytes, loaded.len);
     judge_and_tell(&loaded, bytes, len);
+}
+
+/* Each entry of a sound book, as the library finds it. */
+static void find_entries(const struct rulebook *book) {
+    static const uint8_t none[] = {0, 0};
+    for (size_t at = 0, place = 0; at < rulebook_count(book); at++) {
+        struct entry entry = rulebook_entry(book, at);
+        pachallu_found found = pachallu_find(none, sizeof none, book->bytes, book->len, (uint8_t)entry.number, (uint16_t)entry.age);
+        if (found.refusal || found.start != entry.place || found.length != entry.length || entry.place != place)
+            fail("an entry is not what is found", book->bytes, book->len);
+        place += entry.length;
+    }
+}
+
+static void try_book(const uint8_t *bytes, size_t len) {
+    const struct rulebook book = {NULL, (uint8_t *)bytes, len};
+    char words[REFUSAL_WORDS];
+    books++;
+    if (!is_rulebook(&book)) {
+        bad_book_words(&book, words);
+        no_control_bytes(words, bytes, len);
+        return;
+    }
+    struct sink out = sink_to(-1);
+    sound++;
+    find_entries(&book);
+    put_book(&out, &book);
+    for (size_t i = 0; i < out.used; i++)
+        if (out.bytes[i] < 32 && out.bytes[i] != '\n') fail("a list has a control byte", bytes, len);
+    sink_free(&out);
 }
 
 /* ---- changes */
@@ -152,10 +186,7 @@ static void try_one(void) {
     /* exactly as long as it is, so that a read past its end is seen */
     uint8_t *exact = room_for(NULL, len ? len : 1);
     memcpy(exact, bytes, len);
-    if (seed->is_rule)
-        try_rule(exact, len);
-    else
-        try_drawing(exact, len);
+    seed->try(exact, len);
     free(exact);
 }
 
@@ -164,7 +195,7 @@ static void read_seed(const char *file) {
     const char *end = strrchr(file, '.');
     seed->bytes = room_for(NULL, LONGEST);
     if (read_file(file, seed->bytes, LONGEST, &seed->len) != DONE) exit(FAILED);
-    seed->is_rule = end && strcmp(end, ".rule") == 0;
+    seed->try = end && strcmp(end, ".rule") == 0 ? try_rule : end && strcmp(end, ".rules") == 0 ? try_book : try_drawing;
     seed_count++;
 }
 
@@ -172,12 +203,14 @@ int main(int count, char **arguments) {
     time_t end = time(NULL) + (count > 2 ? atoi(arguments[1]) : 0);
     for (int i = 2; i < count && seed_count < SEEDS; i++) read_seed(arguments[i]);
     if (seed_count == 0) return fputs("usage: fuzz SECONDS FILE..\n", stderr), FAILED;
-    for (size_t i = 0; i < seed_count; i++) (seeds[i].is_rule ? try_rule : try_drawing)(seeds[i].bytes, seeds[i].len);
-    if (accepted != seed_count) return fputs("fuzz: a seed is not accepted\n", stderr), FAILED;
+    for (size_t i = 0; i < seed_count; i++) seeds[i].try(seeds[i].bytes, seeds[i].len);
+    if (accepted + sound != seed_count) return fputs("fuzz: a seed is not accepted\n", stderr), FAILED;
     do
         for (int i = 0; i < 100; i++) try_one();
     while (time(NULL) < end);
-    printf("%zu drawings, %zu without complaint; %zu rule files; %zu accepted\n", drawings, drawn, rules, accepted);
+    printf("%zu drawings, %zu without complaint; %zu rule files; %zu accepted; %zu rule books, %zu sound\n", drawings, drawn, rules,
+           accepted, books, sound);
     for (size_t i = 0; i < seed_count; i++) free(seeds[i].bytes);
-    return drawn > 100 && accepted > 100 ? DONE : (fputs("fuzz: too few were accepted to say much\n", stderr), FAILED);
+    return drawn > 100 && accepted > 100 && sound > 100 ? DONE
+                                                        : (fputs("fuzz: too few were accepted to say much\n", stderr), FAILED);
 }

@@ -24,6 +24,8 @@ use Rattle.trailer.specs.Conditions.{framed, shapeConditions, headConditions}
 use Rattle.trailer.specs.Layout.{trailerOf, trailerOut}
 use Rattle.rulefile.specs.Reading.{partsOf, readingOf}
 use Rattle.rulefile.specs.Writing.{WritePromise, parts, FilePromise}
+use Rattle.book.specs.Finding.{lookupOf, FindPromise}
+use Rattle.book.specs.Adding.{AddPromise}
 use Rattle.sheet.specs.Opening.{openedOf}
 use Rattle.making.specs.Making.{MakePromise}
 use Rattle.effects.specs.Effects.{freshRun, answerIn, StorePromise, DumpPromise}
@@ -32,10 +34,11 @@ use Rattle.rule.specs.declared.Operation.the-variants.{Halt}
 use Rattle.monitor.specs.Fresh.{startOf}
 use Rattle.monitor.specs.Event.{EventPromise}
 use Rattle.printed.specs.Printing.{PrintPromise}
-use Rattle.pachallu.specs.Told.{MakeForC, PrintForC, FreshForC, EventForC}
+use Rattle.pachallu.specs.Told.{MakeForC, PrintForC, FindForC, AddForC, FreshForC, EventForC}
 use Rattle.rulefile.proofs as rulefile
 use Rattle.reading.proofs as reading
 use Rattle.writing.proofs as writing
+use Rattle.book.proofs as book
 use Rattle.making.proofs as making
 use Rattle.sheet.proofs as sheet
 use Rattle.monitor.proofs as monitor
@@ -64,6 +67,17 @@ write-keeps κs a x = x .told
 pub put-file-keeps : Keeps writing.put_file.ended writing.put_file.Reads.Learnt λ κs a r l.
     FilePromise (parts (a .0) (now (a .1 .0)) (now (a .1 .1 .0)) (a .1 .1 .1 .0)) (now (a .1 .1 .1 .1 .0)) r (l .1 .1 .1 .1 .0)
 put-file-keeps κs a x = x .told
+
+-- rules in books: looked up, added
+
+pub look-keeps : Keeps book.look.ended book.look.Reads.Learnt λ κs a r l. r ≡ lookupOf (now (a .0)) (now (a .1 .0)) (a .1 .1 .0) (a .1 .1 .1 .0)
+look-keeps κs a x = x .told
+
+pub find-keeps : Keeps book.find.ended book.find.Reads.Learnt λ κs a r l. FindPromise (a .0) (a .1 .0) (a .1 .1 .0) (a .1 .1 .1 .0) r
+find-keeps κs a x = x .told
+
+pub add-keeps : Keeps book.add.ended book.add.Reads.Learnt λ κs a r l. AddPromise (now (a .0)) (a .1 .0) (now (a .1 .1 .0)) (now (a .1 .1 .1 .0)) r (l .1 .1 .1 .0)
+add-keeps κs a x = x .told
 
 -- the sheet: made, opened
 
@@ -109,6 +123,12 @@ pachallu-make-keeps κs a x = x .told
 pub pachallu-print-keeps : Keeps pachallu.pachallu_print.ended pachallu.pachallu_print.Reads.Learnt λ κs a r l.
     PrintForC (now (a .0)) (now (a .1 .0)) r (l .1 .0)
 pachallu-print-keeps κs a x = x .told
+
+pub pachallu-find-keeps : Keeps pachallu.pachallu_find.ended pachallu.pachallu_find.Reads.Learnt λ κs a r l. FindForC (now (a .0)) (now (a .1 .0)) (a .1 .1 .0) (a .1 .1 .1 .0) r
+pachallu-find-keeps κs a x = x .told
+
+pub pachallu-add-keeps : Keeps pachallu.pachallu_add.ended pachallu.pachallu_add.Reads.Learnt λ κs a r l. AddForC (now (a .0)) (a .1 .0) (now (a .1 .1 .0)) (now (a .1 .1 .1 .0)) r (l .1 .1 .1 .0)
+pachallu-add-keeps κs a x = x .told
 
 pub pachallu-fresh-keeps : Keeps pachallu.pachallu_fresh.ended pachallu.pachallu_fresh.Reads.Learnt λ κs a r l. FreshForC (now (a .0)) r
 pachallu-fresh-keeps κs a x = x .told

@@ -9,6 +9,8 @@ use Rattle.rulefile.specs.Writing.{verdictOf}
 use Rattle.rule.proofs.NumberLaws.{entries-give, members-give, excess-gives, moves-give, stopped-gives, empties-give}
 use Rattle.rule.proofs.PutLaws.{put-one, only-room-ends}
 use Rattle.rulefile.proofs.GivenLaws.{look-ends, read-ends, write-ends}
+use Rattle.book.specs.Adding.{withRule, addVerdict}
+use Rattle.book.proofs.GivenLaws.{find-ends, add-ends}
 use Rattle.sheet.specs.Layout.{sheetOf}
 use Rattle.making.proofs.GivenLaws.{make-ends}
 use Rattle.effects.proofs.KeptLaws.{turn-one, store-ends, dump-ends}
@@ -17,7 +19,7 @@ use Rattle.monitor.proofs.FreshLaws.{open-ends, fresh-ends}
 use Rattle.monitor.proofs.GivenLaws.{event-ends}
 use Rattle.printed.specs.Printing.{textOf}
 use Rattle.printed.proofs.GivenLaws.{print-ends}
-use Rattle.pachallu.proofs.EndsLaws.{c-put-ends, c-fresh-ends, c-event-ends}
+use Rattle.pachallu.proofs.EndsLaws.{c-put-ends, c-find-ends, c-fresh-ends, c-event-ends}
 use Rattle.demands.specs.Demand1.{Demand1}
 
 pub demand-1 : Demand1
@@ -27,6 +29,9 @@ demand-1 =
       read = read-ends;
       one-write = λ r out. put-one (verdictOf r) (fileOf (drawn r)) out;
       write = λ r h out w out′ p. write-ends r (h .pairs-long) p;
+      find = find-ends;
+      one-add = λ b number rule out. put-one (addVerdict b rule) (withRule b number rule) out;
+      add = λ b number rule out w out′ p. add-ends b number rule out p;
       one-file = λ d out. put-one Sound (fileOf d) out;
       put-file = λ d out w out′ p. only-room-ends p;
       one-make = λ f out. put-one (verdictOn f) (sheetOf (drawingIn f)) out;
@@ -41,6 +46,8 @@ demand-1 =
       print = λ f out w out′ p. print-ends f p;
       c-make = λ rule out r out′ p. c-put-ends (λ w. make-ends) p;
       c-print = λ rule out r out′ p. c-put-ends (λ w. print-ends rule) p;
+      c-find = λ job office number age r p. c-find-ends job office number age p;
+      c-add = λ b number rule out r out′ p. c-put-ends (λ w. add-ends b number rule out) p;
       c-fresh = λ sheet r p. c-fresh-ends p;
       c-event = λ sheet state held event memory output r memory′ output′ p. c-event-ends p;
       shape = shape-gives;

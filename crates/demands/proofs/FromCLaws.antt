@@ -36,7 +36,7 @@ use Rattle.demands.specs.FromC.{MadeForC, logWith, HistoryForC}
 use Rattle.demands.specs.FromC as c
 
 -- a number of an order that has no 0 is not 0
-no-zero : {order : List ℕ} {x : Refusal} → among 0 order ≡ false → Numbered order x → toldOf x .number ≡ 0 → ⊥
+pub no-zero : {order : List ℕ} {x : Refusal} → among 0 order ≡ false → Numbered order x → toldOf x .number ≡ 0 → ⊥
 no-zero {order} none n e = clash (rw e at (n .one-of)) none
 
 pub c-made : {file sheet : List ℕ} → MadeForC file sheet → Made file sheet

@@ -10,6 +10,7 @@ use Prim.Native.Nat.{ℕ}
 use mathlib.Core.Path.{_≡_}
 use mathlib.Core.List.{List, [], _∷_}
 use lib.ListN.{length}
+use denote.Ref.{RefT, now}
 use Rattle.rule.specs.Drawing.{Drawing, stateNo, eventNo, zeroRule}
 use Rattle.rule.specs.Refusals.{Numbered, firstOf, verdictTold, entries, members, excess, moves, stopped, empties}
 use Rattle.rule.specs.Given.{Ends}
@@ -25,9 +26,12 @@ use Rattle.trailer.specs.Conditions.{shapeConditions, shapeOrder, headCondition
 use Rattle.trailer.specs.declared.Trailer.{Trailer}
 use Rattle.rulefile.specs.Given.{Reading, readingOrder, Writing, writingOrder, Filing, filingOrder}
 use Rattle.rulefile.specs.Reading.{partsBy, partsOf, readingOf}
-use Rattle.rule.specs.Putting.{OneWritten, writtenTold}
+use Rattle.rule.specs.Putting.{OneWritten, writtenTold, putOrder}
 use Rattle.rulefile.specs.Writing.{Held, WritePromise, FilePromise}
 use Rattle.rule.specs.declared.Written.{Written}
+use Rattle.book.specs.Finding.{lookupOf, verdictBy, FindPromise}
+use Rattle.book.specs.Adding.{AddPromise}
+use Rattle.book.specs.Given.{Finding, findOrder, Adding, addOrder}
 use Rattle.making.specs.Given.{Making, makingOrder}
 use Rattle.making.specs.Making.{MakePromise}
 use Rattle.sheet.specs.Opening.{openedOf, openedTold}
@@ -39,8 +43,10 @@ use Rattle.monitor.specs.Fresh.{startOf}
 use Rattle.monitor.specs.Event.{EventPromise}
 use Rattle.monitor.specs.Given.{FreshRow, freshOrder, EventRow, eventOrder}
 use Rattle.printed.specs.Printing.{PrintPromise, Printing, printingOrder}
-use Rattle.pachallu.specs.Told.{MakeForC, PrintForC, FreshForC, EventForC, runOf, madeTold, startedTold, answeredTold, PutKept, FreshKept, EventKept}
+use Rattle.pachallu.specs.Told.{MakeForC, PrintForC, AddForC, FindForC, FreshForC, EventForC, runOf}
+use Rattle.pachallu.specs.Told.{madeTold, foundTold, startedTold, answeredTold, PutKept, FindKept, FreshKept, EventKept}
 use Rattle.pachallu.specs.declared.Made.{Made}
+use Rattle.pachallu.specs.declared.Found.{Found}
 use Rattle.pachallu.specs.declared.Started.{Started}
 use Rattle.pachallu.specs.declared.Answered.{Answered}
 
@@ -56,6 +62,13 @@ pub record Demand1 : Type 0 where
   pub one-file : (d : Drawing) (out : List ℕ) → OneWritten (FilePromise d out)
   pub put-file : (d : Drawing) (out : List ℕ) (w : Written) (out′ : List ℕ) → FilePromise d out w out′
       → Ends (Filing d (length out)) filingOrder (writtenTold w) (out′ ≡ out)
+  -- a rule, looked up in two books: 17, 18; refused, an empty part
+  pub find : (job office : RefT (List ℕ)) (number age : ℕ) (part : RefT (List ℕ)) → FindPromise job office number age part
+      → Ends (Finding (now job) (now office) number age) findOrder (verdictTold (verdictBy (lookupOf (now job) (now office) number age))) (now part ≡ [])
+  -- a rule, added to a book: 17, 1 to 10, 26, then 16; refused, the output as it was
+  pub one-add : (b : List ℕ) (number : ℕ) (rule out : List ℕ) → OneWritten (AddPromise b number rule out)
+  pub add : (b : List ℕ) (number : ℕ) (rule out : List ℕ) (w : Written) (out′ : List ℕ) → AddPromise b number rule out w out′
+      → Ends (Adding b number rule (length out)) (putOrder addOrder) (writtenTold w) (out′ ≡ out)
   -- a sheet, made: 1 to 10, then 16; refused, the output as it was
   pub one-make : (f out : List ℕ) → OneWritten (MakePromise f out)
   pub make : (f out : List ℕ) (w : Written) (out′ : List ℕ) → MakePromise f out w out′ → Ends (Making f (length out)) makingOrder (writtenTold w) (out′ ≡ out)
@@ -81,6 +94,10 @@ pub record Demand1 : Type 0 where
       → Ends (Making rule (length out)) makingOrder (madeTold r) (PutKept out r out′)
   pub c-print : (rule out : List ℕ) (r : Made) (out′ : List ℕ) → PrintForC rule out r out′
       → Ends (Printing rule (length out)) printingOrder (madeTold r) (PutKept out r out′)
+  pub c-find : (job office : List ℕ) (number age : ℕ) (r : Found) → FindForC job office number age r
+      → Ends (Finding job office number age) findOrder (foundTold r) (FindKept r)
+  pub c-add : (b : List ℕ) (number : ℕ) (rule out : List ℕ) (r : Made) (out′ : List ℕ) → AddForC b number rule out r out′
+      → Ends (Adding b number rule (length out)) (putOrder addOrder) (madeTold r) (PutKept out r out′)
   pub c-fresh : (sheet : List ℕ) (r : Started) → FreshForC sheet r → Ends (FreshRow sheet) freshOrder (startedTold r) (FreshKept r)
   pub c-event : (sheet : List ℕ) (state held event : ℕ) (memory output : List ℕ) (r : Answered) (memory′ output′ : List ℕ)
       → EventForC sheet state held event memory output r memory′ output′

@@ -5,5 +5,7 @@ pub mod Demand3
 -- what they speak of: a sheet made by this build, and the calls of a C program
 pub mod Made
 pub mod FromC
+-- the same for a rule that is kept in a book
+pub mod Found
 -- the marked runs
 pub mod Marked

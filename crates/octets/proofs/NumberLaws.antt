@@ -46,6 +46,14 @@ unfolding digits
 length-digits zero x = refl
 length-digits (suc width) x = ap suc (length-digits width (x / 256))
 
+-- so many bytes are less than that power of 256
+pub valueOf-lt : (l : List ℕ) → Bytes l → valueOf l < 256 ^ length l
+unfolding valueOf
+valueOf-lt [] h = lit< tt
+valueOf-lt (b ∷ l) h =
+    let e : b + 256 * valueOf l ≡ valueOf l * 256 + b = omega arith in
+    rw e (byte-more (length l) (valueOf l) b (valueOf-lt l (λ j. h (suc j))) (h zero))
+
 -- a number, written and read back
 pub valueOf-digits : (width x : ℕ) → x < 256 ^ width → valueOf (digits width x) ≡ x
 unfolding digits valueOf

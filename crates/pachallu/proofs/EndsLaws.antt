@@ -6,13 +6,19 @@ use mathlib.Core.Path.{_≡_, refl, ap}
 use mathlib.Core.List.{List}
 use lib.ListN.{length}
 use Rattle.rule.specs.Drawing.{stateNo, eventNo}
-use Rattle.rule.specs.Given.{Table, Ends}
+use Rattle.rule.specs.Given.{Table, NoRow, Given, done, refused, Ends}
 use Rattle.rule.specs.Refusals.{verdictTold}
+use Rattle.rule.specs.declared.Refusal.{Refusal}
 use Rattle.rule.specs.declared.Verdict.{Verdict}
 use Rattle.rule.specs.declared.Verdict.the-variants.{Sound, Refused as Unsound}
 use Rattle.rule.specs.declared.Written.{Written}
 use Rattle.rule.specs.declared.Written.the-variants.{Done, Refused as Unwritten}
 use Rattle.rule.specs.Putting.{writtenTold}
+use Rattle.book.specs.Finding.{lookupOf, verdictBy}
+use Rattle.book.specs.Given.{Finding, findOrder}
+use Rattle.book.specs.declared.Lookup.{Lookup}
+use Rattle.book.specs.declared.Lookup.the-variants.{Job, Office, Refused as NotFound}
+use Rattle.book.proofs.GivenLaws.{find-sound, find-gives}
 use Rattle.monitor.specs.Event.{EventPromise}
 use Rattle.monitor.specs.Fresh.{startOf}
 use Rattle.monitor.specs.Given.{FreshRow, freshOrder, EventRow, eventOrder}
@@ -22,9 +28,10 @@ use Rattle.effects.specs.Effects.{freshRun}
 use Rattle.effects.specs.declared.Run.{Run}
 use Rattle.effects.specs.declared.Answer.{Answer}
 use Rattle.effects.specs.declared.Answer.the-variants.{Taken, Refused}
-use Rattle.pachallu.specs.Told.{madeOf, PutForC, startedOf, FreshForC, runOf, answeredOf}
-use Rattle.pachallu.specs.Told.{EventForC, madeTold, startedTold, answeredTold, PutKept, FreshKept, EventKept}
+use Rattle.pachallu.specs.Told.{madeOf, PutForC, foundOf, FindForC, startedOf, FreshForC, runOf, answeredOf, EventForC}
+use Rattle.pachallu.specs.Told.{madeTold, foundTold, startedTold, answeredTold, PutKept, FindKept, FreshKept, EventKept}
 use Rattle.pachallu.specs.declared.Made.{Made}
+use Rattle.pachallu.specs.declared.Found.{Found}
 use Rattle.pachallu.specs.declared.Started.{Started}
 use Rattle.pachallu.specs.declared.Answered.{Answered}
 
@@ -36,6 +43,19 @@ c-put-ends {T} {order} {Promise} {out} {r} {out′} ends p = rw (p .told) (by (p
     by : (w : Written) → Ends T order (writtenTold w) (out′ ≡ out) → Ends T order (madeTold (madeOf w)) (PutKept out (madeOf w) out′)
     by (Done n) e = record { tells = e .tells; rest = λ n. absurd (n refl) }
     by (Unwritten x) e = record { tells = e .tells; rest = λ n. record { output-kept = e .rest n; written = refl } }
+
+-- looking a rule up
+pub c-find-ends : (job office : List ℕ) (number age : ℕ) {r : Found} → FindForC job office number age r
+    → Ends (Finding job office number age) findOrder (foundTold r) (FindKept r)
+c-find-ends job office number age p =
+    rw p (by (lookupOf job office number age) (find-sound job office number age .0) (λ x. find-gives job office number age x .0))
+  where
+    by : (r : Lookup) → (verdictBy r ≡ Sound → NoRow (Finding job office number age))
+        → ((x : Refusal) → verdictBy r ≡ Unsound x → Given (Finding job office number age) x findOrder)
+        → Ends (Finding job office number age) findOrder (foundTold (foundOf r)) (FindKept (foundOf r))
+    by (Job start size) none given = record { tells = done (none refl); rest = λ n. absurd (n refl) }
+    by (Office start size) none given = record { tells = done (none refl); rest = λ n. absurd (n refl) }
+    by (NotFound x) none given = record { tells = refused (given x refl); rest = λ n. record { book = refl; start = refl; length = refl } }
 
 -- a fresh start
 pub c-fresh-ends : {sheet : List ℕ} {r : Started} → FreshForC sheet r → Ends (FreshRow sheet) freshOrder (startedTold r) (FreshKept r)

@@ -16,6 +16,15 @@ pachallu-print-one-answer κs a x y = (
   λ i. (tt, ((x .told .promise .output ∙ sym (y .told .promise .output)) i, tt)),
 )
 
+pub pachallu-add-one-answer : OneAnswer proofs.pachallu_add.ended proofs.pachallu_add.Reads.Learnt
+pachallu-add-one-answer κs a x y = (
+  x .told .told ∙ ap madeOf (x .told .promise .answer ∙ sym (y .told .promise .answer)) ∙ sym (y .told .told),
+  λ i. (tt, (tt, (tt, ((x .told .promise .output ∙ sym (y .told .promise .output)) i, tt)))),
+)
+
+pub pachallu-find-one-answer : OneAnswer proofs.pachallu_find.ended proofs.pachallu_find.Reads.Learnt
+pachallu-find-one-answer κs a x y = (x .told ∙ sym (y .told), refl)
+
 pub pachallu-fresh-one-answer : OneAnswer proofs.pachallu_fresh.ended proofs.pachallu_fresh.Reads.Learnt
 pachallu-fresh-one-answer κs a x y = (x .told ∙ sym (y .told), refl)
 

@@ -1,7 +1,7 @@
 -- Each return of the calls for C: the answer behind it, told in numbers.
 -- Assumes nothing.
 use Prim.Native.Nat.{ℕ}
-use mathlib.Core.Path.{_≡_}
+use mathlib.Core.Path.{_≡_, sym, _∙_}
 use mathlib.Core.List.{List}
 use Rattle.rule.specs.Drawing.{eventNo}
 use Rattle.rule.specs.Operations.{markOf}
@@ -12,13 +12,16 @@ use Rattle.rule.specs.declared.Told.{Told}
 use Rattle.rule.specs.declared.Verdict.the-variants.{Sound, Refused as Unsound}
 use Rattle.rule.specs.declared.Written.{Written}
 use Rattle.rule.specs.declared.Written.the-variants.{Done, Refused as Unwritten}
+use Rattle.book.specs.Finding.{lookupOf}
+use Rattle.book.specs.declared.Lookup.{Lookup}
+use Rattle.book.specs.declared.Lookup.the-variants.{Job, Office, Refused as NotFound}
 use Rattle.monitor.specs.Fresh.{startOf}
 use Rattle.monitor.specs.Event.{EventPromise}
 use Rattle.effects.specs.declared.Run.{Run}
 use Rattle.monitor.specs.declared.Start.{Start}
 use Rattle.effects.specs.declared.Answer.{Answer}
 use Rattle.effects.specs.declared.Answer.the-variants.{Taken, Refused}
-use Rattle.pachallu.specs.Told.{madeOf, FreshForC, EventForC, runOf}
+use Rattle.pachallu.specs.Told.{madeOf, FindForC, FreshForC, EventForC, runOf}
 
 -- putting bytes
 pub made-done : {w : Written} {n : ℕ} → w ≡ Done n → record { refusal = 0; a = 0; b = 0; written = n } ≡ madeOf w
@@ -27,6 +30,20 @@ made-done q = rw q
 pub made-refused : {w : Written} {x : Refusal} {t : Told} → w ≡ Unwritten x → t ≡ toldOf x
     → record { refusal = t .number; a = t .a; b = t .b; written = 0 } ≡ madeOf w
 made-refused q e = rw (q, e)
+
+-- looking a rule up
+module _ (job office : List ℕ) (number age : ℕ) {r : Lookup} (is : r ≡ lookupOf job office number age) where
+  pub found-in-job : {start size : ℕ} → r ≡ Job start size
+      → FindForC job office number age (record { refusal = 0; a = 0; b = 0; book = 0; start = start; length = size })
+  found-in-job e = rw (sym is ∙ e)
+
+  pub found-in-office : {start size : ℕ} → r ≡ Office start size
+      → FindForC job office number age (record { refusal = 0; a = 0; b = 0; book = 1; start = start; length = size })
+  found-in-office e = rw (sym is ∙ e)
+
+  pub not-found : {x : Refusal} {t : Told} → r ≡ NotFound x → t ≡ toldOf x
+      → FindForC job office number age (record { refusal = t .number; a = t .a; b = t .b; book = 0; start = 0; length = 0 })
+  not-found e q = rw (sym is ∙ e, q)
 
 -- a fresh start
 pub start-sound : (sheet : List ℕ) (s : Start) → s ≡ startOf sheet → s .verdict ≡ Sound

@@ -11,6 +11,10 @@ use Rattle.rule.specs.declared.Verdict.{Verdict}
 use Rattle.rule.specs.declared.Verdict.the-variants.{Sound, Refused as Unsound}
 use Rattle.rule.specs.declared.Written.{Written}
 use Rattle.rule.specs.declared.Written.the-variants.{Done, Refused as Unwritten}
+use Rattle.book.specs.Finding.{lookupOf}
+use Rattle.book.specs.Adding.{AddPromise}
+use Rattle.book.specs.declared.Lookup.{Lookup}
+use Rattle.book.specs.declared.Lookup.the-variants.{Job, Office, Refused as NotFound}
 use Rattle.making.specs.Making.{MakePromise}
 use Rattle.printed.specs.Printing.{PrintPromise}
 use Rattle.monitor.specs.Fresh.{startOf}
@@ -21,6 +25,7 @@ use Rattle.effects.specs.declared.Answer.the-variants.{Taken, Refused}
 use Rattle.pachallu.specs.declared.Made.{Made}
 use Rattle.pachallu.specs.declared.Started.{Started}
 use Rattle.pachallu.specs.declared.Answered.{Answered}
+use Rattle.pachallu.specs.declared.Found.{Found}
 
 -- putting bytes into an output: 0 is "done"; a refused call has written nothing
 abbrev pub madeOf : Written → Made
@@ -32,12 +37,24 @@ pub record PutForC (Promise : Written → List ℕ → Type 0) (r : Made) (out�
   pub promise : Promise answer out′
   pub told : r ≡ madeOf answer
 
--- making a sheet, and printing a monitor
+-- making a sheet, printing a monitor, adding a rule to a book
 abbrev pub MakeForC : List ℕ → List ℕ → Made → List ℕ → Type 0
 MakeForC rule sheet = PutForC (MakePromise rule sheet)
 
 abbrev pub PrintForC : List ℕ → List ℕ → Made → List ℕ → Type 0
 PrintForC rule text = PutForC (PrintPromise rule text)
+
+abbrev pub AddForC : (b : List ℕ) (number : ℕ) (rule out : List ℕ) → Made → List ℕ → Type 0
+AddForC b number rule out = PutForC (AddPromise b number rule out)
+
+-- looking a rule up: 0 is "found", in the job's book (0) or the office's (1); a refused one has 0 in every place
+abbrev pub foundOf : Lookup → Found
+foundOf (Job start size) = record { refusal = 0; a = 0; b = 0; book = 0; start = start; length = size }
+foundOf (Office start size) = record { refusal = 0; a = 0; b = 0; book = 1; start = start; length = size }
+foundOf (NotFound r) = record { refusal = toldOf r .number; a = toldOf r .a; b = toldOf r .b; book = 0; start = 0; length = 0 }
+
+abbrev pub FindForC : (job office : List ℕ) (number age : ℕ) → Found → Type 0
+FindForC job office number age r = r ≡ foundOf (lookupOf job office number age)
 
 -- a fresh start
 abbrev pub startedOf : Verdict → Run → Started
@@ -82,10 +99,19 @@ startedTold r = tell (r .refusal) (r .a) (r .b)
 abbrev pub answeredTold : Answered → Told
 answeredTold r = tell (r .refusal) (r .a) (r .b)
 
--- what a refused call leaves: the output as it was and nothing written; state 0 with nothing held; the memory, the output and the run state as they were
+abbrev pub foundTold : Found → Told
+foundTold r = tell (r .refusal) (r .a) (r .b)
+
+-- what a refused call leaves: the output as it was and nothing written; 0 for the book, the start and the length; state 0 with nothing held;
+-- the memory, the output and the run state as they were
 pub record PutKept (out : List ℕ) (r : Made) (out′ : List ℕ) : Type 0 where
   pub output-kept : out′ ≡ out
   pub written : r .written ≡ 0
+
+pub record FindKept (r : Found) : Type 0 where
+  pub book : r .book ≡ 0
+  pub start : r .start ≡ 0
+  pub length : r .length ≡ 0
 
 pub record FreshKept (r : Started) : Type 0 where
   pub state : r .state ≡ 0

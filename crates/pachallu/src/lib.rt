@@ -1,6 +1,7 @@
 // What C calls: numbers and byte slices. Each call is one of the house's, and its answer is told in numbers; include/pachallu.h declares them.
 ghost use mathlib.Core.Path.{_≡_};
-ghost use Rattle.pachallu.specs.Told.{madeOf, MakeForC, PrintForC, FreshForC, EventForC};
+ghost use Rattle.pachallu.specs.Told.{madeOf, MakeForC, PrintForC, FindForC, AddForC, FreshForC, EventForC};
+use book::Lookup;
 use effects::Answer;
 use effects::Run;
 use rule::EventNo;
@@ -8,7 +9,7 @@ use rule::StateNo;
 use rule::Verdict;
 use rule::Written;
 
-// What making a sheet or printing a monitor came to. A refusal of 0 is "done".
+// What making a sheet, printing a monitor or adding to a book came to. A refusal of 0 is "done".
 #[repr(C)]
 pub struct Made {
     pub refusal: u8,
@@ -37,6 +38,17 @@ pub struct Answered {
     pub state: u8,
     pub held: usize,
     pub released: usize,
+}
+
+// Where a rule was found: in the job's book (0) or the office's (1), its first byte and its length there.
+#[repr(C)]
+pub struct Found {
+    pub refusal: u8,
+    pub a: u8,
+    pub b: u8,
+    pub book: u8,
+    pub start: usize,
+    pub length: usize,
 }
 
 // What came of putting bytes, told in numbers.
@@ -155,4 +167,48 @@ pub extern "C" fn pachallu_event(
             }
         }
     }
+}
+
+// Looks a rule up in the job's book and the office's: the refusals 17 and 18.
+#[no_mangle]
+pub extern "C" fn pachallu_find(job: &[u8], office: &[u8], number: u8, age: u16) -> Found
+    ensures { λ r. ⌜ FindForC (now (job .entry)) (now (office .entry)) number age r ⌝ }
+{
+    match book::look(job, office, number, age) {
+        Lookup::Job(start, length) => Found {
+            refusal: 0,
+            a: 0,
+            b: 0,
+            book: 0,
+            start,
+            length,
+        },
+        Lookup::Office(start, length) => Found {
+            refusal: 0,
+            a: 0,
+            b: 0,
+            book: 1,
+            start,
+            length,
+        },
+        Lookup::Refused(refusal) => {
+            let told = refusal.told();
+            Found {
+                refusal: told.number,
+                a: told.a,
+                b: told.b,
+                book: 0,
+                start: 0,
+                length: 0,
+            }
+        }
+    }
+}
+
+// Writes a book with one rule more to the front of `out`: the refusals 17, 1 to 10, 26, then 16.
+#[no_mangle]
+pub extern "C" fn pachallu_add(book: &[u8], number: u8, rule: &[u8], out: &mut [u8]) -> Made
+    ensures { λ r. ⌜ AddForC (now (book .entry)) number (now (rule .entry)) (now (out .entry)) r (now (out .exit)) ⌝ }
+{
+    made_of(book::add(book, number, rule, out))
 }

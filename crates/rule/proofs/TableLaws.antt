@@ -5,8 +5,8 @@ use mathlib.Core.Path.{_≡_, refl, subst}
 use mathlib.Core.Bool.{Bool, true, false}
 use mathlib.Core.List.{List, [], _∷_, _++_}
 use mathlib.Core.Logic.{inr, ⊎-elim, _↔_, Iff·trans, Iff·symm}
-use Rattle.rule.specs.Refusals.{toldOf, among, refuseIf, orElse}
-use Rattle.rule.specs.Given.{Table, NoneAt, NoRow, Given, here, later, After, row, last}
+use Rattle.rule.specs.Refusals.{toldOf, among, refuseIf, orElse, verdictTold}
+use Rattle.rule.specs.Given.{Table, NoneAt, NoRow, Given, here, later, After, row, last, done, refused, Ends}
 use Rattle.rule.specs.declared.Refusal.{Refusal}
 use Rattle.rule.specs.declared.Verdict.{Verdict}
 use Rattle.rule.specs.declared.Verdict.the-variants.{Sound, Refused}
@@ -87,7 +87,7 @@ module _ {T : Table} where
       none p m a x r = let e = ⊎-elim (λ e. e) (λ q. clash q refl) (among-says m n [] .0 a) in not-both p (d x .1 (rw e at r))
 
   -- rows, and then the rows after them
-  append : {l m : List ℕ} {w : Verdict} (v : Verdict) → Answers T l v → (v ≡ Sound → Answers T m w) → Answers T (l ++ m) (orElse v w)
+  pub append : {l m : List ℕ} {w : Verdict} (v : Verdict) → Answers T l v → (v ≡ Sound → Answers T m w) → Answers T (l ++ m) (orElse v w)
   append {l} {m} Sound a rest =
       let b = rest refl in
       record {
@@ -151,3 +151,9 @@ module _ {T : Table} (order : List ℕ) (within : Within order T) (n : ℕ) (x :
   pub after-within : toldOf x .number ≡ n → Within (order ++ (n ∷ [])) U
   after-within is m y (row r) = let w = within m y r in record { number = w .number; listed = among-ahead m order (n ∷ []) (w .listed) }
   after-within is m y (last h) = record { number = is; listed = among-last n order }
+
+-- how a call ends that answers a verdict
+pub verdict-ends : {T : Table} {order : List ℕ} {Rest : Type 0} (v : Verdict) → (v ≡ Sound → NoRow T) → ((x : Refusal) → v ≡ Refused x → Given T x order × Rest)
+    → Ends T order (verdictTold v) Rest
+verdict-ends Sound none given = record { tells = done (none refl); rest = λ n. absurd (n refl) }
+verdict-ends (Refused x) none given = let g = given x refl in record { tells = refused (g .0); rest = λ n. g .1 }

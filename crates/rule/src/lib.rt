@@ -93,7 +93,7 @@ impl Operation {
     }
 }
 
-// The refusals in the order of checking, with their places A and B where they have any. `toldOf` of specs/ gives each its number.
+// The refusals by number, with their places A and B where they have any. `toldOf` of specs/ gives each its number.
 pub enum Refusal {
     Frame,
     Class,
@@ -111,6 +111,9 @@ pub enum Refusal {
     Cell(StateNo, EventNo),
     Memory,
     Room,
+    Book(u8),
+    Missing,
+    Full,
 }
 
 // What checking comes to.
@@ -162,6 +165,9 @@ impl Refusal {
             Refusal::Cell(s, e) => Told::new(14, s.0, e.0),
             Refusal::Memory => Told::new(15, 0, 0),
             Refusal::Room => Told::new(16, 0, 0),
+            Refusal::Book(which) => Told::new(17, which, 0),
+            Refusal::Missing => Told::new(18, 0, 0),
+            Refusal::Full => Told::new(26, 0, 0),
         }
     }
 }

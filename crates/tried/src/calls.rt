@@ -1,4 +1,4 @@
-// The calls: on a rule file, on a rule by value, on a sheet.
+// The calls: on a rule file, on a rule by value, on a book, on a sheet.
 ghost use mathlib.Core.Path.{_≡_};
 ghost use Prim.Native.Nat.{_≤_};
 ghost use lib.ListN.{length};
@@ -99,6 +99,35 @@ fn put(command: u8, bytes: &[u8], out: &mut [u8]) -> bool {
     false
 }
 
+// Adds a rule file to a book.
+fn add(book: &[u8], number: u8, rule: &[u8], out: &mut [u8]) {
+    let answer = book::add(book, number, rule, out);
+    said::put(answer, out);
+}
+
+// The calls on a book and what stands behind it from a place on: looks up in it and in the office's book, adds a rule file to it.
+fn books(command: u8, first: u8, second: u8, place: u8, bytes: &[u8]) -> bool {
+    let split = wide(place);
+    if bytes.len() < split {
+        return false;
+    }
+    let book = part(bytes, 0, split);
+    let rest = part(bytes, split, bytes.len());
+    if command == b'f' {
+        said::lookup(book::look(book, rest, first, second as u16));
+        said::bytes(book::find(book, rest, first, second as u16));
+        return true;
+    }
+    if command == b'a' {
+        let mut whole = [171u8; 255];
+        let out: &mut [u8] = &mut whole;
+        let room = wide(first);
+        add(book, second, rest, &mut out[0..room]);
+        return true;
+    }
+    false
+}
+
 // A command by its letter. Answers whether there is one with so many numbers.
 pub(crate) fn call(command: u8, numbers: &[u8], bytes: &[u8]) -> bool {
     if command == b'e' {
@@ -109,6 +138,9 @@ pub(crate) fn call(command: u8, numbers: &[u8], bytes: &[u8]) -> bool {
         let out: &mut [u8] = &mut whole;
         let room = wide(numbers[0]);
         return put(command, bytes, &mut out[0..room]);
+    }
+    if numbers.len() == 3 {
+        return books(command, numbers[0], numbers[1], numbers[2], bytes);
     }
     if numbers.len() != 0 {
         return false;

@@ -2,6 +2,7 @@
 ghost use Prim.Native.Nat.{_≤_};
 ghost use lib.ListN.{length};
 use crate::script::wide;
+use book::Lookup;
 use effects::Run;
 use rule::Operation;
 use rule::Refusal;
@@ -69,6 +70,21 @@ pub(crate) fn refused(refusal: Refusal) {
     number(told.number as u64);
     number(told.a as u64);
     number(told.b as u64);
+}
+
+fn place(book: &[u8], start: usize, size: usize) {
+    say(book);
+    number(start as u64);
+    number(size as u64);
+}
+
+// Where a rule was found.
+pub(crate) fn lookup(found: Lookup) {
+    match found {
+        Lookup::Job(start, size) => place(b" job", start, size),
+        Lookup::Office(start, size) => place(b" office", start, size),
+        Lookup::Refused(refusal) => refused(refusal),
+    }
 }
 
 // What came of writing.
