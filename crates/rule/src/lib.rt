@@ -108,6 +108,7 @@ pub enum Refusal {
     Cell(StateNo, EventNo),
     Memory,
     Room,
+    Log,
 }
 
 // What checking comes to.
@@ -153,6 +154,7 @@ impl Refusal {
             Refusal::Cell(s, e) => Told::new(14, s.0, e.0),
             Refusal::Memory => Told::new(15, 0, 0),
             Refusal::Room => Told::new(16, 0, 0),
+            Refusal::Log => Told::new(19, 0, 0),
         }
     }
 }
