@@ -26,8 +26,9 @@ use Rattle.making.specs.Making.{MakePromise}
 use Rattle.effects.specs.Effects.{freshRun, StorePromise, DumpPromise}
 use Rattle.monitor.specs.Fresh.{startOf}
 use Rattle.monitor.specs.Event.{EventPromise}
+use Rattle.monitor.specs.Evening.{EveningPromise}
 use Rattle.printed.specs.Printing.{PrintPromise}
-use Rattle.pachallu.specs.Told.{MakeForC, PrintForC, FreshForC, EventForC}
+use Rattle.pachallu.specs.Told.{MakeForC, PrintForC, FreshForC, EventForC, EveningForC}
 use Rattle.rulefile.proofs as rulefile
 use Rattle.reading.proofs as reading
 use Rattle.writing.proofs as writing
@@ -64,13 +65,17 @@ make-keeps κs a x = x .told
 pub open-keeps : Keeps sheet.open.ended sheet.open.Reads.Learnt λ κs a r l. r ≡ openedOf (now (a .0))
 open-keeps κs a x = x .told
 
--- the run: a fresh start, one event, and its operations
+-- the run: a fresh start, one event, an evening of them, and an event's operations
 
 pub fresh-keeps : Keeps monitor.fresh.ended monitor.fresh.Reads.Learnt λ κs a r l. r ≡ startOf (now (a .0))
 fresh-keeps κs a x = x .told
 
 pub event-keeps : Keeps monitor.event.ended monitor.event.Reads.Learnt λ κs a r l. EventPromise (now (a .0)) (a .1 .0) (a .1 .1 .0) (now (a .1 .1 .1 .0)) (now (a .1 .1 .1 .1 .0)) r (l .1 .1 .1 .0) (l .1 .1 .1 .1 .0)
 event-keeps κs a x = x .told
+
+pub events-keeps : Keeps monitor.events.ended monitor.events.Reads.Learnt λ κs a r l.
+    EveningPromise (now (a .0)) (a .1 .0) (now (a .1 .1 .0)) (now (a .1 .1 .1 .0)) (now (a .1 .1 .1 .1 .0)) r (l .1 .1 .1 .0) (l .1 .1 .1 .1 .0)
+events-keeps κs a x = x .told
 
 pub Run-new-keeps : Keeps effects.Run.new.ended effects.Run.new.Reads.Learnt λ κs a r l. r ≡ freshRun (a .0)
 Run-new-keeps κs a x = x .told
@@ -99,6 +104,11 @@ pachallu-fresh-keeps κs a x = x .told
 
 pub pachallu-event-keeps : Keeps pachallu.pachallu_event.ended pachallu.pachallu_event.Reads.Learnt λ κs a r l. EventForC (now (a .0)) (a .1 .0) (a .1 .1 .0) (a .1 .1 .1 .0) (now (a .1 .1 .1 .1 .0)) (now (a .1 .1 .1 .1 .1 .0)) r (l .1 .1 .1 .1 .0) (l .1 .1 .1 .1 .1 .0)
 pachallu-event-keeps κs a x = x .told
+
+pub pachallu-events-keeps : Keeps pachallu.pachallu_events.ended pachallu.pachallu_events.Reads.Learnt λ κs a r l.
+    EveningForC (now (a .0)) (a .1 .0) (a .1 .1 .0) (now (a .1 .1 .1 .0)) (now (a .1 .1 .1 .1 .0)) (now (a .1 .1 .1 .1 .1 .0)) r
+    (l .1 .1 .1 .1 .0) (l .1 .1 .1 .1 .1 .0)
+pachallu-events-keeps κs a x = x .told
 
 -- the checks that they are built of
 

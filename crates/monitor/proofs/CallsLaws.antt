@@ -12,7 +12,7 @@ use Rattle.effects.specs.declared.Run.{Run}
 use Rattle.effects.specs.declared.Answer.{Answer}
 use Rattle.effects.specs.declared.Answer.the-variants.{Taken, Refused as Declined}
 use Rattle.monitor.specs.Event.{turnOf, EventPromise}
-use Rattle.monitor.specs.Evening.{Entry, Outcome, joined, goOn, callsOf, Calls, over, refused, taken}
+use Rattle.monitor.specs.Evening.{Entry, codes, Outcome, joined, goOn, callsOf, Calls, over, refused, taken}
 
 -- the first of two joins goes first
 pub joined-joined : (a c : List Entry) (b d : List ℕ) (x : Outcome) → joined a b (joined c d x) ≡ joined (a ++ c) (b ++ d) x
@@ -78,3 +78,10 @@ module _ (sheet : List ℕ) where
       let t = turnOf sheet run (eventNo e) memory output in
       append-by e a b run (λ next left rest. calls-append a b next left rest)
       (answerIn t (run .held)) (memoryIn t (run .held) e memory) (outputIn t (run .held) e memory output) p
+
+  -- the events taken are a beginning of the log
+  pub calls-front : {run : Run} {log memory output : List ℕ} {x : Outcome} → Calls sheet run log memory output x
+      → (rest : List ℕ) × (log ≡ codes (x .taken) ++ rest)
+  calls-front over = ([], refl)
+  calls-front (refused {e = e} {es = es} p) = (e ∷ es, refl)
+  calls-front (taken {e = e} p c) = let f = calls-front c in (f .0, ap (λ (l : List ℕ). e ∷ l) (f .1))

@@ -5,7 +5,7 @@ use native.Mathlib.Omega.{arith}
 use native.Mathlib.Decide.{decLt}
 use mathlib.Core.Path.{_≡_, refl, sym, ap, _∙_}
 use mathlib.Core.Bool.{true}
-use mathlib.Core.List.{List, [], _∷_}
+use mathlib.Core.List.{List, [], _∷_, _++_}
 use mathlib.Core.Logic.{_↔_, inr}
 use lib.ListN.{length, length-append}
 use lib.Seq.{drop-append-seam}
@@ -15,24 +15,37 @@ use Rattle.rule.specs.Given.{Table, NoRow, Given, here, later, Ends}
 use Rattle.rule.specs.Refusals.{toldOf, among, verdictTold}
 use Rattle.rule.specs.declared.Refusal.{Refusal}
 use Rattle.rule.specs.declared.Refusal.the-variants.{Log}
-use Rattle.rule.specs.declared.Verdict.{Verdict}
 use Rattle.rule.specs.declared.Verdict.the-variants.{Sound, Refused}
 use Rattle.rule.proofs.BoolLaws.{clash}
 use Rattle.rule.proofs.NumberLaws.{among-says, among-ahead}
 use Rattle.rule.proofs.RefusalLaws.{not-both}
 use Rattle.rule.proofs.TableLaws.{Within, ahead, own-row, only-given, as-rows, sound-exactly, verdict-ends}
 use Rattle.sheet.specs.Opening.{openedOf}
+use Rattle.effects.specs.Effects.{OneAnswer}
 use Rattle.effects.specs.declared.Run.{Run}
-use Rattle.monitor.specs.Evening.{Entry, codes, Outcome, idle, callsOf, standsBy, eveningOf, Reports, EveningPromise}
+use Rattle.monitor.specs.Evening.{Entry, codes, Outcome, idle, callsOf, standsBy, eveningOf, reportOf, Reports, EveningPromise}
 use Rattle.monitor.specs.Given.{standOrder, StandRow, eventOrder, RefusedAt, eveningOrder, EveningRow, too-long, no-event, event-refused, EveningKept}
 use Rattle.monitor.specs.declared.Evening.{Evening}
 use Rattle.monitor.proofs.GivenLaws.{stand-within, stand-rows, refused-when, turn-refuses}
+use Rattle.monitor.proofs.CallsLaws.{calls-of, calls-front}
 use Rattle.monitor.proofs.EveningLaws.{is-short}
 use Rattle.monitor.proofs.FirstLaws.{stopped, some-none, refused-call, found, found-ends, all-taken, first-only}
 
 pub codes-long : (l : List Entry) → length (codes l) ≡ length l
 codes-long [] = refl
 codes-long (x ∷ l) = ap suc (codes-long l)
+
+-- an evening has one report, and one memory and output after it
+pub evening-one : (sheet : List ℕ) (run : Run) (log memory output : List ℕ) → OneAnswer (EveningPromise sheet run log memory output)
+evening-one sheet run log memory output =
+    let x = eveningOf sheet run log memory output in
+    record {
+      answer = reportOf x;
+      memory = x .memory;
+      output = x .released ++ x .rest;
+      kept = record { report = refl; memory-after = refl; output-after = refl };
+      only = λ r m out p. (p .report, p .memory-after, p .output-after);
+    }
 
 module _ (sheet : List ℕ) (run : Run) (memory output : List ℕ) where
   abbrev evening : List ℕ → Outcome
@@ -197,3 +210,12 @@ module _ (sheet : List ℕ) (run : Run) (memory output : List ℕ) where
           let none = first-only sheet run memory output x a (R .before) (R .event) (R .all-taken) (R .refused) in
           ap (λ (y : Outcome). y .taken) (is-calls e es s ∙ found-ends sheet run (e ∷ es) memory output x R)
           ∙ ap (λ (l : List ℕ). callsOf sheet run l memory output .taken) none
+
+  -- the events taken are a beginning of the log
+  pub evening-front : (log : List ℕ) → (rest : List ℕ) × (log ≡ codes (evening log .taken) ++ rest)
+  evening-front log = by log (decLt 4096 (length log))
+    where
+      by : (log : List ℕ) → Dec (4096 < length log) → (rest : List ℕ) × (log ≡ codes (evening log .taken) ++ rest)
+      by log (yes h) = (log, rw (is-long log h))
+      by [] (no h) = ([], rw is-empty)
+      by (e ∷ es) (no h) = let f = calls-front sheet (calls-of sheet run (e ∷ es) memory output) in (f .0, rw (is-calls e es (omega arith)) (f .1))
