@@ -1,4 +1,4 @@
-//! The proved library as C sees it (include/pachallu.h), and its three calls on slices.
+//! The proved library as C sees it (include/pachallu.h), and its calls on slices.
 #![allow(dead_code)]
 
 #[repr(C)]
@@ -32,6 +32,18 @@ pub struct Answer {
     pub released: usize,
 }
 
+#[repr(C)]
+#[derive(Clone, Copy, PartialEq, Eq, Debug)]
+pub struct Evening {
+    pub refusal: u8,
+    pub a: u8,
+    pub b: u8,
+    pub state: u8,
+    pub held: usize,
+    pub taken: usize,
+    pub released: usize,
+}
+
 extern "C" {
     fn pachallu_make(rule: *const u8, rule_len: usize, sheet: *mut u8, sheet_len: usize) -> Made;
     fn pachallu_fresh(sheet: *const u8, sheet_len: usize) -> Start;
@@ -46,6 +58,18 @@ extern "C" {
         output: *mut u8,
         output_len: usize,
     ) -> Answer;
+    fn pachallu_events(
+        sheet: *const u8,
+        sheet_len: usize,
+        state: u8,
+        held: usize,
+        log: *const u8,
+        log_len: usize,
+        memory: *mut u8,
+        memory_len: usize,
+        output: *mut u8,
+        output_len: usize,
+    ) -> Evening;
 }
 
 #[inline(always)]
@@ -67,6 +91,24 @@ pub fn event(sheet: &[u8], state: u8, held: usize, event: u8, memory: &mut [u8],
             state,
             held,
             event,
+            memory.as_mut_ptr(),
+            memory.len(),
+            output.as_mut_ptr(),
+            output.len(),
+        )
+    }
+}
+
+#[inline(always)]
+pub fn events(sheet: &[u8], state: u8, held: usize, log: &[u8], memory: &mut [u8], output: &mut [u8]) -> Evening {
+    unsafe {
+        pachallu_events(
+            sheet.as_ptr(),
+            sheet.len(),
+            state,
+            held,
+            log.as_ptr(),
+            log.len(),
             memory.as_mut_ptr(),
             memory.len(),
             output.as_mut_ptr(),
