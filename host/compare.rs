@@ -23,6 +23,9 @@ use oracle::History;
 use std::io::Write;
 use std::process::{exit, Command, Stdio};
 
+/// Every empty buffer is lent as NULL (host/library.rs).
+pub const NULL_FOR_EMPTY: bool = true;
+
 /// How often each refusal must be met at least.
 const ENOUGH: usize = 20;
 /// How many files of one kind (a class, or a refusal number) are printed by `table`: starting it takes time.
@@ -133,6 +136,8 @@ struct Counts {
     starts: [usize; 2],
     histories: usize,
     halted: usize,
+    /// Texts that `pachallu_print` refused for want of room, and those that it printed.
+    texts: [usize; 2],
     printed_sound: [usize; 5],
     printed_refused: [usize; 17],
     printed_other: usize,
@@ -177,6 +182,32 @@ impl Comparison {
         };
         self.counts.places[second.refusal as usize] += hard as usize;
         Ok((library, sheet))
+    }
+
+    /// The text of a file: into an output of no bytes, of one byte too few, of just enough, and of more.
+    fn text(&mut self, dice: &mut Dice, file: &[u8]) -> Result<(), String> {
+        self.file = file.to_vec();
+        let text = monitor::printed(file).into_bytes();
+        let lent = Lent::of(dice, file);
+        let kept = lent.clone();
+        for room in [0, text.len() - 1, text.len(), text.len() + 1 + dice.below(40)] {
+            let call = format!("pachallu_print(rule file of {} bytes, text of {} bytes)", file.len(), room);
+            let mut out = Lent::blank(dice, room);
+            let mut twin = out.clone();
+            let library = library::print(lent.bytes(), out.bytes_mut());
+            let fits = text.len() <= room;
+            if fits {
+                twin.bytes_mut()[..text.len()].copy_from_slice(&text);
+            }
+            let second = expected_made(if fits { Ok(text.len()) } else { Err(Refusal { no: 16, a: 0, b: 0 }) });
+            if library != second {
+                return Err(differ(&call, library, second));
+            }
+            same_bytes(&call, "text", &out, &twin)?;
+            untouched(&call, "rule file", &kept, &lent)?;
+            self.counts.texts[fits as usize] += 1;
+        }
+        Ok(())
     }
 
     fn fresh(&mut self, sheet: &Lent) -> Result<Start, String> {
@@ -302,6 +333,7 @@ impl Comparison {
     fn file(&mut self, dice: &mut Dice, file: &[u8]) -> Result<(), String> {
         self.counts.files += 1;
         let drawn = monitor::read(file);
+        self.text(dice, file)?;
         self.table(file, &drawn)?;
         let rule = match drawn {
             Ok(rule) => rule,
@@ -751,6 +783,7 @@ fn report(c: &Counts) {
         c.least, c.greatest, c.damaged_but_sound
     );
     println!("sheets       {} made; refused {}", c.made[0], list(&c.made, 1..=16));
+    println!("texts        {} printed; refused 16 {}", c.texts[1], c.texts[0]);
     println!("fresh starts {}; refused {}", c.starts[0], c.starts[1]);
     println!(
         "events       halt {}, store {}, dump {} ({} with events held); refused {}",

@@ -46,6 +46,7 @@ pub struct Evening {
 
 extern "C" {
     fn pachallu_make(rule: *const u8, rule_len: usize, sheet: *mut u8, sheet_len: usize) -> Made;
+    fn pachallu_print(rule: *const u8, rule_len: usize, text: *mut u8, text_len: usize) -> Made;
     fn pachallu_fresh(sheet: *const u8, sheet_len: usize) -> Start;
     fn pachallu_event(
         sheet: *const u8,
@@ -72,28 +73,52 @@ extern "C" {
     ) -> Evening;
 }
 
+/// Where a buffer starts. NULL for an empty one where the program says so: C++ callers pass it (an empty vector's data()), and the header permits it.
+#[inline(always)]
+fn start(bytes: &[u8]) -> *const u8 {
+    if crate::NULL_FOR_EMPTY && bytes.is_empty() {
+        std::ptr::null()
+    } else {
+        bytes.as_ptr()
+    }
+}
+
+#[inline(always)]
+fn start_mut(bytes: &mut [u8]) -> *mut u8 {
+    if crate::NULL_FOR_EMPTY && bytes.is_empty() {
+        std::ptr::null_mut()
+    } else {
+        bytes.as_mut_ptr()
+    }
+}
+
 #[inline(always)]
 pub fn make(rule: &[u8], sheet: &mut [u8]) -> Made {
-    unsafe { pachallu_make(rule.as_ptr(), rule.len(), sheet.as_mut_ptr(), sheet.len()) }
+    unsafe { pachallu_make(start(rule), rule.len(), start_mut(sheet), sheet.len()) }
+}
+
+#[inline(always)]
+pub fn print(rule: &[u8], text: &mut [u8]) -> Made {
+    unsafe { pachallu_print(start(rule), rule.len(), start_mut(text), text.len()) }
 }
 
 #[inline(always)]
 pub fn fresh(sheet: &[u8]) -> Start {
-    unsafe { pachallu_fresh(sheet.as_ptr(), sheet.len()) }
+    unsafe { pachallu_fresh(start(sheet), sheet.len()) }
 }
 
 #[inline(always)]
 pub fn event(sheet: &[u8], state: u8, held: usize, event: u8, memory: &mut [u8], output: &mut [u8]) -> Answer {
     unsafe {
         pachallu_event(
-            sheet.as_ptr(),
+            start(sheet),
             sheet.len(),
             state,
             held,
             event,
-            memory.as_mut_ptr(),
+            start_mut(memory),
             memory.len(),
-            output.as_mut_ptr(),
+            start_mut(output),
             output.len(),
         )
     }
@@ -103,15 +128,15 @@ pub fn event(sheet: &[u8], state: u8, held: usize, event: u8, memory: &mut [u8],
 pub fn events(sheet: &[u8], state: u8, held: usize, log: &[u8], memory: &mut [u8], output: &mut [u8]) -> Evening {
     unsafe {
         pachallu_events(
-            sheet.as_ptr(),
+            start(sheet),
             sheet.len(),
             state,
             held,
-            log.as_ptr(),
+            start(log),
             log.len(),
-            memory.as_mut_ptr(),
+            start_mut(memory),
             memory.len(),
-            output.as_mut_ptr(),
+            start_mut(output),
             output.len(),
         )
     }

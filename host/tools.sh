@@ -1,5 +1,5 @@
-# shellcheck shell=sh disable=SC2154,SC2034
-# host/tools.sh: what host/host-test, bench and examples/show share. It is sourced, with $me the name for messages and
+# shellcheck shell=sh disable=SC2154,SC2034,SC2086
+# host/tools.sh: what run, bench, the Makefile, host/host-test, examples/show and command/test share. It is sourced, with $me the name for messages and
 # $top the root of the project. The library is x86-64 code: on aarch64 a cross compiler links and Debian's emulator runs.
 
 triple=x86_64-unknown-linux-gnu
@@ -22,6 +22,18 @@ has() {
         command -v "$word" >/dev/null 2>&1 || return 1
     done
 }
+
+# lock, unlock: of two that build in this folder at once, the second waits for the first
+lock() {
+    mkdir -p "$built"
+    # not a file of target/, which rt ci takes away
+    exec 9<"$top/crates.txt"
+    flock -n 9 || {
+        say "another command is building in this folder; waiting for it"
+        flock 9
+    }
+}
+unlock() { exec 9<&-; }
 
 # bring PACKAGE..: Debian's packages, by root; anybody else is told what to do
 bring() {
@@ -64,6 +76,13 @@ need_c() {
     ready_c || die "the packages were installed, but $linker ${emulator:+or $emulator }is still not found"
 }
 
+# need_graphviz: the commands dot and nop
+need_graphviz() {
+    has dot nop && return 0
+    bring graphviz
+    has dot nop || die "the packages were installed, but dot or nop is still not found"
+}
+
 # need_rust: the same for Rust
 need_rust() {
     ready_rust && return 0
@@ -86,11 +105,40 @@ stale() {
     return 1
 }
 
-# rattle WORD..: runs rt in the project, quiet when good
+no_rattle() {
+    die "the Rattle toolchain is missing: its command rt, which proves and builds the library, is not on the PATH." \
+        "Install the kit and add its bin folder to the PATH."
+}
+
+# want_rattle: is the toolchain there, where the library has to be built? To be asked before anything is installed.
+want_rattle() { has rt || ! stale "$top/target/staticlib/libpachallu.a" "$top/crates" "$top/crates.txt" || no_rattle; }
+
+# crates_seen: names each crate of which rt has told something, as it comes
+crates_seen() {
+    seen=' '
+    while IFS= read -r line; do
+        case $line in
+        rt:\ *,*) continue ;;
+        rt:\ *\ proved*) crate=${line#rt: } crate=${crate%% *} ;;
+        *::*:\ proved) crate=${line#* } crate=${crate%%::*} ;;
+        *) continue ;;
+        esac
+        case $seen in
+        *" $crate "*) ;;
+        *) seen="$seen$crate " && say "    $crate" ;;
+        esac
+    done
+}
+
+# rattle WORD..: runs rt in the project
 rattle() {
-    has rt || die "target/ lacks what is compared, and the command rt of the Rattle toolchain, which makes it, is not on PATH"
+    has rt || no_rattle
     mkdir -p "$built"
-    (cd "$top" && rt "$@") >"$built/rt.log" 2>&1 || {
+    say "building and proving, about two minutes the first time (rt $*):"
+    {
+        (cd "$top" && rt "$@" 9>&- 2>&1) && echo 0 >"$built/rt.status" || echo 1 >"$built/rt.status"
+    } | tee "$built/rt.log" | crates_seen
+    [ "$(cat "$built/rt.status")" = 0 ] || {
         tail -n 30 "$built/rt.log" >&2
         die "rt $* did not succeed (all of it in target/host/rt.log)"
     }
@@ -99,8 +147,30 @@ rattle() {
 # need_archive: the library, $archive
 need_archive() {
     archive=$top/target/staticlib/libpachallu.a
+    ! stale "$archive" "$top/crates" "$top/crates.txt" && return 0
+    lock
     ! stale "$archive" "$top/crates" "$top/crates.txt" || rattle staticlib pachallu
+    unlock
     [ -f "$archive" ] || die "rt staticlib pachallu left no target/staticlib/libpachallu.a"
+}
+
+# flags: how every C program of the project is compiled. The tests add -Werror: a compiler of tomorrow may warn of more, and still build.
+flags='-std=c99 -pedantic -O2 -Wall -Wextra -Wshadow'
+
+# need_command: the command pachallu, $pachallu, to be started with $emulator before it
+need_command() {
+    want_rattle
+    need_c
+    need_archive
+    pachallu=$built/pachallu
+    ! stale "$pachallu" "$top/command" "$top/include" "$archive" && return 0
+    lock
+    ! stale "$pachallu" "$top/command" "$top/include" "$archive" || {
+        "$linker" $flags $static -I "$top/include" "$top"/command/*.c "$archive" -o "$pachallu.new" ||
+            die "command/ could not be compiled and linked"
+        mv "$pachallu.new" "$pachallu"
+    }
+    unlock
 }
 
 # quoted WORD: the word as the shell reads it back
@@ -109,7 +179,11 @@ quoted() { printf "'%s' " "$(printf %s "$1" | sed "s/'/'\\\\''/g")"; }
 # need_table: the program table, and the shell words that start it, $table
 need_table() {
     program=$top/target/bin/table
-    ! stale "$program" "$top/crates" "$top/crates.txt" || rattle check table
+    ! stale "$program" "$top/crates" "$top/crates.txt" || {
+        lock
+        ! stale "$program" "$top/crates" "$top/crates.txt" || rattle check table
+        unlock
+    }
     [ -f "$program" ] || die "rt check table left no target/bin/table"
     has rt || die "the command rt of the Rattle toolchain is not on PATH; it brings what runs target/bin/table"
     kit=$(readlink -f "$(command -v rt)")
@@ -123,8 +197,9 @@ need_table() {
 # compile NAME: host/NAME.rs with the library linked in, as target/host/NAME
 compile() {
     ! stale "$built/$1" "$top/host" "$archive" && return 0
-    mkdir -p "$built"
+    lock
     "$rustc" --edition 2021 --target "$triple" -C linker="$linker" -C opt-level=3 \
         -L "${archive%/*}" -l static=pachallu "$top/host/$1.rs" -o "$built/$1.new" || die "host/$1.rs could not be compiled and linked"
     mv "$built/$1.new" "$built/$1"
+    unlock
 }

@@ -34,8 +34,8 @@
  * BUFFERS belong to the caller; the library keeps no pointer after a call, allocates nothing and frees nothing. Each buffer is a
  * pointer and its length in bytes.
  *   - The buffers of one call must not overlap, neither in part nor as a whole. (Several calls may use the same buffer.)
- *   - A pointer must not be NULL, even with length 0: pass any valid pointer then. A length of 0 is fine everywhere, and is
- *     answered by a refusal where bytes were needed.
+ *   - A buffer of length 0 is never touched, and its pointer may be NULL, as C++ callers have it (an empty vector's data()). A length of 0
+ *     is fine everywhere, and is answered by a refusal where bytes were needed. With any other length the pointer must be valid.
  *   - `const` buffers are only read.
  *   - Nothing outside of what an answer names is written: pachallu_make writes sheet[0] to sheet[written - 1]; a store writes the
  *     one byte memory[held] (held as it was given); a dump writes output[0] to output[released - 1]; a halt writes nothing.
@@ -72,6 +72,7 @@
  *
  * pachallu_make gives 1 to 10, then 16; pachallu_fresh gives 11; pachallu_event gives 11 to 16;
  * pachallu_events gives 19, then 11 and 12 (of an empty log too), then 13 to 16 of each event in turn; always the first that holds.
+ * pachallu_print tells 1 to 10 in its text, and gives 16. pachallu_refusal_text puts a number into words.
  *
  * The library is x86-64 code for Linux. Usable from C99 and C++.
  */
@@ -85,9 +86,13 @@
 extern "C" {
 #endif
 
-/* The longest rule file, the longest sheet, and the limits of a rule: states, events, accepting pairs. */
+#define PACHALLU_VERSION "0.2.0"
+
+/* The longest rule file, the longest sheet, the longest printed monitor, and the limits of a rule: states, events, accepting
+ * pairs. */
 #define PACHALLU_RULE_MAX 3212
 #define PACHALLU_SHEET_MAX 2054
+#define PACHALLU_TEXT_MAX 32768
 #define PACHALLU_STATES_MAX 64
 #define PACHALLU_EVENTS_MAX 32
 #define PACHALLU_PAIRS_MAX 8
@@ -144,6 +149,35 @@ pachallu_answer pachallu_event(const uint8_t *sheet, size_t sheet_len, uint8_t s
 /* Takes up to PACHALLU_LOG_MAX events, each release right after the one before. An output of held + log_len bytes is always enough. */
 pachallu_evening pachallu_events(const uint8_t *sheet, size_t sheet_len, uint8_t state, size_t held, const uint8_t *log, size_t log_len,
                                  uint8_t *memory, size_t memory_len, uint8_t *output, size_t output_len);
+
+/* Prints a rule file's monitor, or its refusal, as the program table does. 16 where the text does not fit; PACHALLU_TEXT_MAX bytes are always enough. */
+pachallu_made pachallu_print(const uint8_t *rule, size_t rule_len, uint8_t *text, size_t text_len);
+
+/* What a refusal number means, in a few words and with no full stop; never NULL. A and B are the places of the table above. */
+static inline const char *pachallu_refusal_text(uint8_t refusal) {
+    static const char *const texts[] = {
+        "not refused",
+        "this is no rule file: its length or its last two bytes are wrong",
+        "the class is not 1 to 4",
+        "the states, events, pairs or initial state are out of range, or byte 5 of the trailer is not 0",
+        "a distance in the trailer is wrong, the file is too short for its table, or its note is over 1,024 bytes",
+        "the move of state A by event B leads to no state",
+        "pair A names a state that is not there (B 0: in R, 1: in P)",
+        "the class wants R or P to be empty, and it is not",
+        "the class forbids the move of state A by event B",
+        "from the initial state nothing can ever be accepted (by pair A)",
+        "R and P of pair A are both empty",
+        "this is no sheet",
+        "this is no run state of the sheet",
+        "the event is not one of the rule's",
+        "the sheet is spoiled at state A, event B",
+        "the event is to be held, and the memory is full",
+        "the output has too little room",
+    };
+    if (refusal == 19)
+        return "the log is over 4,096 events";
+    return refusal < sizeof texts / sizeof texts[0] ? texts[refusal] : "this number is not known to this version";
+}
 
 #ifdef __cplusplus
 }

@@ -15,7 +15,8 @@ use Rattle.rule.specs.Classes.{forbids, forbidsSome}
 use Rattle.rule.specs.Drawing.{Drawing, states, events, count, initial, body, noPair, pairAt, stateNo, eventNo}
 use Rattle.rule.specs.Operations.{reachOf}
 use Rattle.rule.specs.Reach.{target, Closed, reachedWithin}
-use Rattle.rule.specs.Refusals.{refuseIf, firstOf, firstBelow, firstCell, entries, moves, memberAt, members, exceeds, excess, stopAt, stopped, emptyAt, empties, conditions}
+use Rattle.rule.specs.Refusals.{refuseIf, firstOf, firstBelow, firstCell, entries, moves, memberAt}
+use Rattle.rule.specs.Refusals.{members, exceeds, excess, stopAt, stopped, emptyAt, empties, conditions}
 use Rattle.rule.specs.Sets.{has, Members, isEmpty, namesPast}
 use Rattle.rule.specs.Stopping.{stopsBy}
 use Rattle.rule.proofs.GivenLaws.{entries-sound}
@@ -152,13 +153,15 @@ four-none (p ∷ ps) s t = four-none ps s t
 -- class 4 forbids no move
 pub moves-four : (h : Shape) (table : List ℕ) (ps : List Pair) → h .class ≡ 4 → Sound ≡ moves (body h table ps)
 unfolding moves
-moves-four h table ps c = sym (cells-sound-iff _ (h .events) (h .states) .1 (λ s e _ _. rw (c, four-none (take (h .pairs) ps) s (target table (h .events) s e))))
+moves-four h table ps c = sym (cells-sound-iff _ (h .events) (h .states) .1
+    (λ s e _ _. rw (c, four-none (take (h .pairs) ps) s (target table (h .events) s e))))
 
 -- 9
 
 module _ (d : Drawing) (i : ℕ) (none : firstBelow (stopAt d) i ≡ Sound) where
   module _ {q : Pair} (at : q ≡ pairAt d i)
-      {reach : ℕ} (far : reach ≡ reachedWithin (d .table) (states d) (events d) (initial d) (states d - 1)) {b : Bool} (is : b ≡ stopsBy q reach (initial d)) where
+      {reach : ℕ} (far : reach ≡ reachedWithin (d .table) (states d) (events d) (initial d) (states d - 1)) {b : Bool}
+      (is : b ≡ stopsBy q reach (initial d)) where
     pub stop-hit : b ≡ true → i < count d → Refused (Stopping i) ≡ stopped d
     unfolding stopped reachOf
     stop-hit t h = hit-at (stopAt d) (count d) i none h (rw (← at, ← far, ← is, t))

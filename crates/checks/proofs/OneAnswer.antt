@@ -3,5 +3,5 @@ use mathlib.Core.Path.{refl, sym, _∙_}
 use Rattle.contracts.specs.Contract.{OneAnswer}
 use Rattle.checks.proofs
 
-pub checked-one-answer : OneAnswer proofs.checked.ended proofs.checked.Reads.Learnt
-checked-one-answer κs a x y = (x .told ∙ sym (y .told), refl)
+pub check-body-one-answer : OneAnswer proofs.check_body.ended proofs.check_body.Reads.Learnt
+check-body-one-answer κs a x y = (x .told ∙ sym (y .told), refl)

@@ -26,7 +26,7 @@ use rule::StateNo;
 use rule::Verdict;
 
 // 3: more states or pairs than can be held here, or no pair.
-fn range(shape: Shape) -> Verdict
+fn check_range(shape: Shape) -> Verdict
     ensures { λ r. ⌜ r ≡ refuseIf (not (holds shape)) Range ⌝ }
 {
     let pairs_held = (1 <= shape.pairs) & (shape.pairs <= Rule::PAIRS);
@@ -37,7 +37,7 @@ fn range(shape: Shape) -> Verdict
 }
 
 // 5: the first entry in row order that names no state.
-fn entries(shape: Shape, table: &[u8]) -> Verdict
+fn check_entries(shape: Shape, table: &[u8]) -> Verdict
     ensures { λ r. ⌜ r ≡ paper.entries (body shape (now (table .entry)) []) ⌝ }
 {
     let states = shape.states;
@@ -76,7 +76,7 @@ fn names_past(states: u8, set: u64) -> bool
 }
 
 // 6: the lowest used pair that names no state, and which of its two sets does.
-fn members(shape: Shape, pairs: [Pair; 8]) -> Verdict
+fn check_members(shape: Shape, pairs: [Pair; 8]) -> Verdict
     requires { ⌜ shape .pairs ≤ 8 ⌝ }
     ensures { λ r. ⌜ r ≡ paper.members (body shape [] pairs) ⌝ }
 {
@@ -93,7 +93,7 @@ fn members(shape: Shape, pairs: [Pair; 8]) -> Verdict
 }
 
 // 7: R in class 1, P in class 2 and in class 4.
-fn excess(shape: Shape, pairs: [Pair; 8]) -> Verdict
+fn check_excess(shape: Shape, pairs: [Pair; 8]) -> Verdict
     requires { ⌜ (1 ≤ shape .pairs) × (shape .pairs ≤ 8) ⌝ }
     ensures { λ r. ⌜ r ≡ paper.excess (body shape [] pairs) ⌝ }
 {
@@ -109,7 +109,7 @@ fn excess(shape: Shape, pairs: [Pair; 8]) -> Verdict
 
 // 8: the first move in row order that the class forbids. Class 4 forbids none. Check 5 has found every entry below N, so that
 // each is a state that a set can hold.
-fn moves(shape: Shape, table: &[u8], pairs: [Pair; 8]) -> Verdict
+fn check_moves(shape: Shape, table: &[u8], pairs: [Pair; 8]) -> Verdict
     requires { ⌜ (shape .states ≤ 64) × (shape .pairs ≤ 8) × Closed (now table) (shape .states) (shape .events) ⌝ }
     ensures { λ r. ⌜ r ≡ paper.moves (body shape (now (table .entry)) pairs) ⌝ }
 {
@@ -134,7 +134,7 @@ fn moves(shape: Shape, table: &[u8], pairs: [Pair; 8]) -> Verdict
 }
 
 // 9: the lowest used pair by which the initial state is stopping.
-fn stopped(shape: Shape, table: &[u8], pairs: [Pair; 8]) -> Verdict
+fn check_stopped(shape: Shape, table: &[u8], pairs: [Pair; 8]) -> Verdict
     requires { ⌜ shape .pairs ≤ 8 ⌝ }
     ensures { λ r. ⌜ r ≡ paper.stopped (body shape (now (table .entry)) pairs) ⌝ }
 {
@@ -149,7 +149,7 @@ fn stopped(shape: Shape, table: &[u8], pairs: [Pair; 8]) -> Verdict
 }
 
 // 10: the lowest used pair with both sets empty.
-fn empties(shape: Shape, pairs: [Pair; 8]) -> Verdict
+fn check_empties(shape: Shape, pairs: [Pair; 8]) -> Verdict
     requires { ⌜ shape .pairs ≤ 8 ⌝ }
     ensures { λ r. ⌜ r ≡ paper.empties (body shape [] pairs) ⌝ }
 {
@@ -163,40 +163,40 @@ fn empties(shape: Shape, pairs: [Pair; 8]) -> Verdict
 }
 
 // The checks 7 to 10 in order, of what passed 3 and 5.
-fn from_excess(shape: Shape, table: &[u8], pairs: [Pair; 8]) -> Verdict
+fn check_from_excess(shape: Shape, table: &[u8], pairs: [Pair; 8]) -> Verdict
     requires { ⌜ (shape .states ≤ 64) × (1 ≤ shape .pairs) × (shape .pairs ≤ 8) × Closed (now table) (shape .states) (shape .events) ⌝ }
     ensures { λ r. ⌜ r ≡ firstOf (drop 2 (conditions (body shape (now (table .entry)) pairs))) ⌝ }
 {
-    let verdict = excess(shape, pairs);
+    let verdict = check_excess(shape, pairs);
     let Verdict::Sound = verdict else {
         return verdict;
     };
-    let verdict = moves(shape, table, pairs);
+    let verdict = check_moves(shape, table, pairs);
     let Verdict::Sound = verdict else {
         return verdict;
     };
-    let verdict = stopped(shape, table, pairs);
+    let verdict = check_stopped(shape, table, pairs);
     let Verdict::Sound = verdict else {
         return verdict;
     };
-    empties(shape, pairs)
+    check_empties(shape, pairs)
 }
 
 // 3 of a shape that cannot be held here, and then the checks 5 to 10 in order.
-pub fn checked(shape: Shape, table: &[u8], pairs: [Pair; 8]) -> Verdict
+pub fn check_body(shape: Shape, table: &[u8], pairs: [Pair; 8]) -> Verdict
     ensures { λ r. ⌜ r ≡ checkedOf shape (now (table .entry)) pairs ⌝ }
 {
-    let verdict = range(shape);
+    let verdict = check_range(shape);
     let Verdict::Sound = verdict else {
         return verdict;
     };
-    let verdict = entries(shape, table);
+    let verdict = check_entries(shape, table);
     let Verdict::Sound = verdict else {
         return verdict;
     };
-    let verdict = members(shape, pairs);
+    let verdict = check_members(shape, pairs);
     let Verdict::Sound = verdict else {
         return verdict;
     };
-    from_excess(shape, table, pairs)
+    check_from_excess(shape, table, pairs)
 }

@@ -23,7 +23,9 @@ use Rattle.rulefile.specs.Reading.{partsOf, readingOf}
 use Rattle.rulefile.specs.Writing.{WritePromise}
 use Rattle.sheet.specs.Opening.{openedOf}
 use Rattle.making.specs.Making.{MakePromise}
-use Rattle.effects.specs.Effects.{freshRun, StorePromise, DumpPromise}
+use Rattle.effects.specs.Effects.{freshRun, answerIn, StorePromise, DumpPromise}
+use Rattle.effects.specs.declared.Turn.the-variants.{Move}
+use Rattle.rule.specs.declared.Operation.the-variants.{Halt}
 use Rattle.monitor.specs.Fresh.{startOf}
 use Rattle.monitor.specs.Event.{EventPromise}
 use Rattle.monitor.specs.Evening.{EveningPromise}
@@ -70,7 +72,8 @@ open-keeps κs a x = x .told
 pub fresh-keeps : Keeps monitor.fresh.ended monitor.fresh.Reads.Learnt λ κs a r l. r ≡ startOf (now (a .0))
 fresh-keeps κs a x = x .told
 
-pub event-keeps : Keeps monitor.event.ended monitor.event.Reads.Learnt λ κs a r l. EventPromise (now (a .0)) (a .1 .0) (a .1 .1 .0) (now (a .1 .1 .1 .0)) (now (a .1 .1 .1 .1 .0)) r (l .1 .1 .1 .0) (l .1 .1 .1 .1 .0)
+pub event-keeps : Keeps monitor.event.ended monitor.event.Reads.Learnt λ κs a r l.
+    EventPromise (now (a .0)) (a .1 .0) (a .1 .1 .0) (now (a .1 .1 .1 .0)) (now (a .1 .1 .1 .1 .0)) r (l .1 .1 .1 .0) (l .1 .1 .1 .1 .0)
 event-keeps κs a x = x .told
 
 pub events-keeps : Keeps monitor.events.ended monitor.events.Reads.Learnt λ κs a r l.
@@ -80,10 +83,15 @@ events-keeps κs a x = x .told
 pub Run-new-keeps : Keeps effects.Run.new.ended effects.Run.new.Reads.Learnt λ κs a r l. r ≡ freshRun (a .0)
 Run-new-keeps κs a x = x .told
 
-pub store-keeps : Keeps effects.store.ended effects.store.Reads.Learnt λ κs a r l. StorePromise (a .0) (a .1 .0) (a .1 .1 .0) (now (a .1 .1 .1 .0)) r (l .1 .1 .1 .0)
+pub halt-keeps : Keeps effects.halt.ended effects.halt.Reads.Learnt λ κs a r l. r ≡ answerIn (Move Halt (a .0)) (a .1 .0 .held)
+halt-keeps κs a x = x .told
+
+pub store-keeps : Keeps effects.store.ended effects.store.Reads.Learnt λ κs a r l.
+    StorePromise (a .0) (a .1 .0) (a .1 .1 .0) (now (a .1 .1 .1 .0)) r (l .1 .1 .1 .0)
 store-keeps κs a x = x .told
 
-pub dump-keeps : Keeps effects.dump.ended effects.dump.Reads.Learnt λ κs a r l. DumpPromise (a .0) (now (a .1 .0)) (a .1 .1 .0) (now (a .1 .1 .1 .0)) r (l .1 .1 .1 .0)
+pub dump-keeps : Keeps effects.dump.ended effects.dump.Reads.Learnt λ κs a r l.
+    DumpPromise (a .0) (now (a .1 .0)) (a .1 .1 .0) (now (a .1 .1 .1 .0)) r (l .1 .1 .1 .0)
 dump-keeps κs a x = x .told
 
 -- the printed monitor
@@ -96,13 +104,16 @@ print-keeps κs a x = x .told
 pub pachallu-make-keeps : Keeps pachallu.pachallu_make.ended pachallu.pachallu_make.Reads.Learnt λ κs a r l. MakeForC (now (a .0)) (now (a .1 .0)) r (l .1 .0)
 pachallu-make-keeps κs a x = x .told
 
-pub pachallu-print-keeps : Keeps pachallu.pachallu_print.ended pachallu.pachallu_print.Reads.Learnt λ κs a r l. PrintForC (now (a .0)) (now (a .1 .0)) r (l .1 .0)
+pub pachallu-print-keeps : Keeps pachallu.pachallu_print.ended pachallu.pachallu_print.Reads.Learnt λ κs a r l.
+    PrintForC (now (a .0)) (now (a .1 .0)) r (l .1 .0)
 pachallu-print-keeps κs a x = x .told
 
 pub pachallu-fresh-keeps : Keeps pachallu.pachallu_fresh.ended pachallu.pachallu_fresh.Reads.Learnt λ κs a r l. FreshForC (now (a .0)) r
 pachallu-fresh-keeps κs a x = x .told
 
-pub pachallu-event-keeps : Keeps pachallu.pachallu_event.ended pachallu.pachallu_event.Reads.Learnt λ κs a r l. EventForC (now (a .0)) (a .1 .0) (a .1 .1 .0) (a .1 .1 .1 .0) (now (a .1 .1 .1 .1 .0)) (now (a .1 .1 .1 .1 .1 .0)) r (l .1 .1 .1 .1 .0) (l .1 .1 .1 .1 .1 .0)
+pub pachallu-event-keeps : Keeps pachallu.pachallu_event.ended pachallu.pachallu_event.Reads.Learnt λ κs a r l.
+    EventForC (now (a .0)) (a .1 .0) (a .1 .1 .0) (a .1 .1 .1 .0) (now (a .1 .1 .1 .1 .0)) (now (a .1 .1 .1 .1 .1 .0)) r (l .1 .1 .1 .1 .0)
+    (l .1 .1 .1 .1 .1 .0)
 pachallu-event-keeps κs a x = x .told
 
 pub pachallu-events-keeps : Keeps pachallu.pachallu_events.ended pachallu.pachallu_events.Reads.Learnt λ κs a r l.
@@ -115,16 +126,17 @@ pachallu-events-keeps κs a x = x .told
 pub framed-keeps : Keeps trailer.framed.ended trailer.framed.Reads.Learnt λ κs a r l. r ≡ framed (now (a .0))
 framed-keeps κs a x = x .told
 
-pub shaped-keeps : Keeps trailer.shaped.ended trailer.shaped.Reads.Learnt λ κs a r l. r ≡ firstOf (shapeConditions (a .0))
-shaped-keeps κs a x = x .told
+pub check-shape-keeps : Keeps trailer.check_shape.ended trailer.check_shape.Reads.Learnt λ κs a r l. r ≡ firstOf (shapeConditions (a .0))
+check-shape-keeps κs a x = x .told
 
-pub headed-keeps : Keeps trailer.headed.ended trailer.headed.Reads.Learnt λ κs a r l. r ≡ firstOf (headConditions (a .0) (a .1 .0))
-headed-keeps κs a x = x .told
+pub check-trailer-keeps : Keeps trailer.check_trailer.ended trailer.check_trailer.Reads.Learnt λ κs a r l. r ≡ firstOf (headConditions (a .0) (a .1 .0))
+check-trailer-keeps κs a x = x .told
 
-pub checked-keeps : Keeps checks.checked.ended checks.checked.Reads.Learnt λ κs a r l. r ≡ checkedOf (a .0) (now (a .1 .0)) (a .1 .1 .0)
-checked-keeps κs a x = x .told
+pub check-body-keeps : Keeps checks.check_body.ended checks.check_body.Reads.Learnt λ κs a r l. r ≡ checkedOf (a .0) (now (a .1 .0)) (a .1 .1 .0)
+check-body-keeps κs a x = x .told
 
-pub banned-keeps : Keeps classes.banned.ended classes.banned.Reads.Learnt λ κs a r l. Members r (forbidsSome (a .0 .class) (take (a .0 .pairs) (a .1 .0)) (a .1 .1 .0 .0))
+pub banned-keeps : Keeps classes.banned.ended classes.banned.Reads.Learnt λ κs a r l.
+    Members r (forbidsSome (a .0 .class) (take (a .0 .pairs) (a .1 .0)) (a .1 .1 .0 .0))
 banned-keeps κs a x = x .told
 
 -- what is computed of a rule
@@ -132,10 +144,12 @@ banned-keeps κs a x = x .told
 pub value-keeps : Keeps operations.value.ended operations.value.Reads.Learnt λ κs a r l. r ≡ valueOf (a .0) (a .1 .0) (a .1 .1 .0 .0)
 value-keeps κs a x = x .told
 
-pub operation-keeps : Keeps operations.operation.ended operations.operation.Reads.Learnt λ κs a r l. r ≡ smallestOf (take (a .1 .0) (a .0)) (a .1 .1 .0) (a .1 .1 .1 .0 .0)
+pub operation-keeps : Keeps operations.operation.ended operations.operation.Reads.Learnt λ κs a r l.
+    r ≡ smallestOf (take (a .1 .0) (a .0)) (a .1 .1 .0) (a .1 .1 .1 .0 .0)
 operation-keeps κs a x = x .told
 
-pub into-states-keeps : Keeps operations.into_states.ended operations.into_states.Reads.Learnt λ κs a r l. r ≡ operationsOf (body (a .0) (now (a .1 .0)) (a .1 .1 .0))
+pub into-states-keeps : Keeps operations.into_states.ended operations.into_states.Reads.Learnt λ κs a r l.
+    r ≡ operationsOf (body (a .0) (now (a .1 .0)) (a .1 .1 .0))
 into-states-keeps κs a x = x .told
 
 pub stops-keeps : Keeps operations.stops.ended operations.stops.Reads.Learnt λ κs a r l. r ≡ stopsBy (a .0) (a .1 .0) (a .1 .1 .0 .0)
@@ -150,13 +164,16 @@ insert-keeps κs a x = x .told
 pub next-keeps : Keeps reach.next.ended reach.next.Reads.Learnt λ κs a r l. r .0 ≡ target (now (a .0)) (a .1 .0) (a .1 .1 .0 .0) (a .1 .1 .1 .0 .0)
 next-keeps κs a x = x .told
 
-pub reached-within-keeps : Keeps reach.reached_within.ended reach.reached_within.Reads.Learnt λ κs a r l. r ≡ reachedWithin (now (a .0)) (a .1 .0) (a .1 .1 .0) (a .1 .1 .1 .0 .0) (a .1 .1 .1 .1 .0)
+pub reached-within-keeps : Keeps reach.reached_within.ended reach.reached_within.Reads.Learnt λ κs a r l.
+    r ≡ reachedWithin (now (a .0)) (a .1 .0) (a .1 .1 .0) (a .1 .1 .1 .0 .0) (a .1 .1 .1 .1 .0)
 reached-within-keeps κs a x = x .told
 
-pub reached-keeps : Keeps reach.reached.ended reach.reached.Reads.Learnt λ κs a r l. r ≡ reachedWithin (now (a .0)) (a .1 .0) (a .1 .1 .0) (a .1 .1 .1 .0 .0) (a .1 .0 - 1)
+pub reached-keeps : Keeps reach.reached.ended reach.reached.Reads.Learnt λ κs a r l.
+    r ≡ reachedWithin (now (a .0)) (a .1 .0) (a .1 .1 .0) (a .1 .1 .1 .0 .0) (a .1 .0 - 1)
 reached-keeps κs a x = x .told
 
-pub reached-sets-keeps : Keeps reach.reached_sets.ended reach.reached_sets.Reads.Learnt λ κs a r l. r ≡ reachedSets (now (a .0)) (a .1 .0) (a .1 .1 .0) (a .1 .1 .1 .0) (a .1 .0)
+pub reached-sets-keeps : Keeps reach.reached_sets.ended reach.reached_sets.Reads.Learnt λ κs a r l.
+    r ≡ reachedSets (now (a .0)) (a .1 .0) (a .1 .1 .0) (a .1 .1 .1 .0) (a .1 .0)
 reached-sets-keeps κs a x = x .told
 
 -- numbers and places

@@ -6,9 +6,9 @@ use Rattle.trailer.proofs.NumberLaws.{shape-gives, head-gives}
 use Rattle.rulefile.specs.Layout.{drawingIn, fileOf}
 use Rattle.rulefile.specs.Reading.{verdictOn}
 use Rattle.rulefile.specs.Writing.{verdictOf}
-use Rattle.rulefile.proofs.AnswerLaws.{put-one}
+use Rattle.rule.proofs.PutLaws.{put-one}
 use Rattle.rulefile.proofs.GivenLaws.{look-ends, read-ends, write-ends}
-use Rattle.making.specs.Making.{sheetOf}
+use Rattle.sheet.specs.Layout.{sheetOf}
 use Rattle.making.proofs.GivenLaws.{make-ends}
 use Rattle.effects.proofs.KeptLaws.{turn-one, store-ends, dump-ends}
 use Rattle.monitor.specs.Event.{turnOf}

@@ -10,7 +10,7 @@ use Rattle.rule.proofs.ConstructionLaws.{published-moves, published-stops}
 use Rattle.rule.proofs.OperationLaws.{stopping-stays}
 use Rattle.rulefile.specs.Layout.{drawingIn, fileOf}
 use Rattle.rulefile.specs.Writing.{verdictOf}
-use Rattle.rulefile.proofs.AnswerLaws.{put-done}
+use Rattle.rule.proofs.PutLaws.{put-done}
 use Rattle.rulefile.proofs.RoundTrips.{read-written, written-read, same-rule}
 use Rattle.making.proofs.MakingLaws.{cell-next, cell-operation}
 use Rattle.making.proofs.GivenLaws.{make-gives, make-done}

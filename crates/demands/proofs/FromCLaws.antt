@@ -11,10 +11,10 @@ use Rattle.rule.specs.Refusals.{toldOf, among, Numbered}
 use Rattle.rule.specs.declared.Refusal.{Refusal}
 use Rattle.rule.proofs.BoolLaws.{clash}
 use Rattle.rulefile.specs.Reading.{verdictOn}
-use Rattle.rulefile.proofs.AnswerLaws.{put-refused}
+use Rattle.rule.proofs.PutLaws.{put-numbered}
 use Rattle.rulefile.proofs.GivenLaws.{file-gives}
-use Rattle.rulefile.specs.declared.Written.{Written}
-use Rattle.rulefile.specs.declared.Written.the-variants.{Done, Refused as Unwritten}
+use Rattle.rule.specs.declared.Written.{Written}
+use Rattle.rule.specs.declared.Written.the-variants.{Done, Refused as Unwritten}
 use Rattle.making.specs.Making.{MakePromise}
 use Rattle.sheet.specs.Opening.{openedOf}
 use Rattle.sheet.specs.declared.Opened.{Opened}
@@ -53,7 +53,7 @@ c-made {file} {sheet} m = by (m .promise .answer) (m .promise .promise) (m .prom
           front = m .front ∙ ap (λ (x : CMade). take (x .written) (m .out′)) t;
         }
     by (Unwritten x) p t =
-        absurd (no-zero refl (put-refused (verdictOn file) (file-gives file) _ _ x (sym (p .answer))) (sym (ap (λ (y : CMade). y .refusal) t) ∙ m .done))
+        absurd (no-zero refl (put-numbered (verdictOn file) (file-gives file) _ _ x (sym (p .answer))) (sym (ap (λ (y : CMade). y .refusal) t) ∙ m .done))
 
 -- what each call adds, by the answer behind it
 c-call : {sheet : List ℕ} {log : List Entry} {released : List ℕ} {state held : ℕ} {memory : List ℕ} → History sheet log released (runOf state held) memory

@@ -17,10 +17,10 @@ use Rattle.rule.proofs.GivenLaws.{conditions-sound}
 use Rattle.rule.proofs.OperationLaws.{laws, sharp}
 use Rattle.rulefile.specs.Layout.{drawingIn}
 use Rattle.rulefile.specs.Reading.{verdictOn}
-use Rattle.rulefile.proofs.AnswerLaws.{put-done, put-room}
+use Rattle.rule.proofs.PutLaws.{put-done, put-room}
 use Rattle.rulefile.proofs.PartsLaws.{sound-file}
 use Rattle.rulefile.proofs.WellLaws.{file-shaped, file-pairs, file-well}
-use Rattle.making.specs.Making.{sheetOf}
+use Rattle.sheet.specs.Layout.{sheetOf}
 use Rattle.making.proofs.MakingLaws.{Formed, sheet-opens, sheet-cell}
 use Rattle.making.proofs.FoundLaws.{sound-formed}
 use Rattle.monitor.specs.Fresh.{startOf}

@@ -15,16 +15,18 @@ use Rattle.rule.specs.Range.{inRange}
 use Rattle.rule.specs.Refusals.{firstOf, firstBelow, firstCell, entries, members, exceeds, excess, moves, stopped, empties}
 use Rattle.rule.specs.declared.Verdict.the-variants.{Sound}
 use Rattle.trailer.specs.Conditions.{framed, classed, ranged, placed}
-use Rattle.rulefile.specs.Layout.{trailerOf, upTo, drawingIn, flatUpTo, trailerOut, fileOf}
+use Rattle.trailer.specs.Layout.{trailerOf, trailerOut}
+use Rattle.rulefile.specs.Layout.{upTo, drawingIn, flatUpTo, fileOf}
 use Rattle.rulefile.specs.Reading.{verdictOn}
-use Rattle.making.specs.Making.{sheetOf}
+use Rattle.sheet.specs.Layout.{sheetOf}
 use Rattle.sheet.specs.Opening.{opens, openedOf}
 use Rattle.monitor.specs.Event.{cellTurn, lookOf}
 use Rattle.history.specs.History.{History, call}
 use Rattle.demands.specs.Marked.{A, S, G, O, D, Stand, eight, one, all, markOf, marked, found, wanted}
 
 -- the layout of setup rule A, byte for byte
-pub file-A : fileOf A ≡ 1 ∷ 2 ∷ 0 ∷ 2 ∷ 0 ∷ 2 ∷ 2 ∷ 2 ∷ 2 ∷ 1 ∷ 0 ∷ 0 ∷ 0 ∷ 0 ∷ 0 ∷ 0 ∷ 0 ∷ 0 ∷ 0 ∷ 0 ∷ 0 ∷ 0 ∷ 0 ∷ 0 ∷ 0 ∷ 4 ∷ 3 ∷ 3 ∷ 1 ∷ 0 ∷ 0 ∷ 37 ∷ 0 ∷ 28 ∷ 0 ∷ 72 ∷ 82 ∷ []
+pub file-A : fileOf A ≡ 1 ∷ 2 ∷ 0 ∷ 2 ∷ 0 ∷ 2 ∷ 2 ∷ 2 ∷ 2 ∷ 1 ∷ 0 ∷ 0 ∷ 0 ∷ 0 ∷ 0 ∷ 0 ∷ 0 ∷ 0 ∷ 0 ∷ 0 ∷ 0 ∷ 0 ∷ 0 ∷ 0 ∷ 0 ∷ 4 ∷ 3 ∷ 3 ∷ 1 ∷ 0 ∷ 0 ∷
+    37 ∷ 0 ∷ 28 ∷ 0 ∷ 72 ∷ 82 ∷ []
 unfolding fileOf flatUpTo trailerOut digits
 file-A = refl
 
@@ -35,7 +37,9 @@ read-back = refl
 
 -- and none of them is refused
 pub none-refused : map (λ d. verdictOn (fileOf d)) (A ∷ S ∷ G ∷ O ∷ D ∷ []) ≡ Sound ∷ Sound ∷ Sound ∷ Sound ∷ Sound ∷ []
-unfolding fileOf flatUpTo trailerOut digits drawingIn trailerOf upTo valueOf verdictOn firstOf framed classed ranged inRange placed firstBelow firstCell entries members exceeds excess moves stopped empties namesPast isEmpty has insert including meetsBelow meets target withMoves movedBelow movedSet spread reachedWithin reachOf stopsBy movesInto movesOut forbids forbidsSome
+unfolding fileOf flatUpTo trailerOut digits drawingIn trailerOf upTo valueOf verdictOn firstOf framed classed ranged inRange placed firstBelow
+    firstCell entries members exceeds excess moves stopped empties namesPast isEmpty has insert including meetsBelow meets target withMoves movedBelow
+    movedSet spread reachedWithin reachOf stopsBy movesInto movesOut forbids forbidsSome
 none-refused = refl
 
 -- their sheets
@@ -46,12 +50,14 @@ pub sheets : map sheetOf (A ∷ S ∷ G ∷ O ∷ D ∷ []) ≡
     ∷ (1 ∷ 2 ∷ 64 ∷ 1 ∷ 1 ∷ 1 ∷ 2 ∷ 2 ∷ 2 ∷ 3 ∷ 3 ∷ 0 ∷ 77 ∷ 15 ∷ 0 ∷ [])
     ∷ (1 ∷ 1 ∷ 2 ∷ 1 ∷ 0 ∷ 77 ∷ 8 ∷ 0 ∷ [])
     ∷ []
-unfolding sheetOf digits operationAt smallestOf paper.valueOf reachOf has insert including meetsBelow meets target withMoves movedBelow movedSet spread reachedWithin
+unfolding sheetOf digits operationAt smallestOf paper.valueOf reachOf has insert including meetsBelow meets target withMoves movedBelow movedSet
+    spread reachedWithin
 sheets = refl
 
 -- the twelve marked runs
 pub the-twelve : found marked ≡ wanted marked
-unfolding found wanted markOf all one sheetOf digits operationAt smallestOf paper.valueOf reachOf has insert including meetsBelow meets target withMoves movedBelow movedSet spread reachedWithin inRange opens openedOf cellTurn lookOf
+unfolding found wanted markOf all one sheetOf digits operationAt smallestOf paper.valueOf reachOf has insert including meetsBelow meets target
+    withMoves movedBelow movedSet spread reachedWithin inRange opens openedOf cellTurn lookOf
 the-twelve = refl
 
 -- a computed run is a history

@@ -13,13 +13,14 @@ use Rattle.rule.specs.Drawing.{Drawing, eventNo, drawn}
 use Rattle.rule.specs.declared.Refusal.the-variants.{Room}
 use Rattle.rule.specs.declared.Verdict.the-variants.{Sound, Refused}
 use Rattle.rule.proofs.BoolLaws.{itself, lt-says, and-says}
-use Rattle.rulefile.specs.Layout.{drawingIn, fileOf, flatUpTo, trailerOut}
+use Rattle.trailer.specs.Layout.{trailerOut}
+use Rattle.rulefile.specs.Layout.{drawingIn, fileOf, flatUpTo}
 use Rattle.rulefile.specs.Reading.{verdictOn, readingOf}
 use Rattle.rulefile.specs.Writing.{verdictOf, Held, WritePromise}
-use Rattle.rulefile.specs.declared.Written.the-variants.{Done}
-use Rattle.rulefile.proofs.AnswerLaws.{put-one}
+use Rattle.rule.specs.declared.Written.the-variants.{Done}
+use Rattle.rule.proofs.PutLaws.{put-one}
 use Rattle.rulefile.proofs.RoundTrips.{read-held, read-written}
-use Rattle.making.specs.Making.{sheetOf}
+use Rattle.sheet.specs.Layout.{sheetOf}
 use Rattle.effects.specs.Effects.{answerIn, memoryIn, outputIn}
 use Rattle.monitor.specs.Fresh.{startOf}
 use Rattle.monitor.specs.Event.{turnOf}
@@ -106,7 +107,8 @@ module _ {file sheet : List ℕ} (made : Made file sheet) where
         held = _;
         memory = _;
         history =
-            call (s .history) e eight (answeredOf (answerIn turn (s .held)) run) (memoryIn turn (s .held) e (s .memory)) (outputIn turn (s .held) e (s .memory) eight)
+            call (s .history) e eight (answeredOf (answerIn turn (s .held)) run) (memoryIn turn (s .held) e (s .memory))
+            (outputIn turn (s .held) e (s .memory) eight)
             (record { answer = answerIn turn (s .held); promise = record { answer = refl; memory-after = refl; output-after = refl }; told = refl });
       }
 

@@ -27,8 +27,9 @@ use Rattle.trailer.specs.Conditions.{shapeConditions, shapeOrder, headCondition
 use Rattle.trailer.specs.declared.Trailer.{Trailer}
 use Rattle.rulefile.specs.Given.{Reading, readingOrder, Writing, writingOrder}
 use Rattle.rulefile.specs.Reading.{partsBy, partsOf, readingOf}
-use Rattle.rulefile.specs.Writing.{Held, WritePromise, OneWritten, writtenTold}
-use Rattle.rulefile.specs.declared.Written.{Written}
+use Rattle.rule.specs.Putting.{OneWritten, writtenTold}
+use Rattle.rulefile.specs.Writing.{Held, WritePromise}
+use Rattle.rule.specs.declared.Written.{Written}
 use Rattle.making.specs.Given.{Making, makingOrder}
 use Rattle.making.specs.Making.{MakePromise}
 use Rattle.sheet.specs.Opening.{openedOf, openedTold}
@@ -80,7 +81,8 @@ pub record Demand1 : Type 0 where
       → Ends (DumpTable (length held) (length output)) dumpOrder (answerTold r) (output′ ≡ output)
   -- a rule's monitor, printed: 16; refused, the output as it was
   pub one-print : (f out : List ℕ) → OneWritten (PrintPromise f out)
-  pub print : (f out : List ℕ) (w : Written) (out′ : List ℕ) → PrintPromise f out w out′ → Ends (Printing f (length out)) printingOrder (writtenTold w) (out′ ≡ out)
+  pub print : (f out : List ℕ) (w : Written) (out′ : List ℕ) → PrintPromise f out w out′
+      → Ends (Printing f (length out)) printingOrder (writtenTold w) (out′ ≡ out)
   -- from C the same calls, told in numbers; refused, every buffer and the run state that was given are as they were, or,
   -- of an evening, as the events that it took left them
   pub c-make : (rule out : List ℕ) (r : Made) (out′ : List ℕ) → MakeForC rule out r out′

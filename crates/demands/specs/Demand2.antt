@@ -22,17 +22,19 @@ use Rattle.rule.specs.declared.Verdict.the-variants.{Sound}
 use Rattle.rulefile.specs.Layout.{drawingIn}
 use Rattle.rulefile.specs.Reading.{readingOf}
 use Rattle.rulefile.specs.Writing.{WritePromise, Held}
-use Rattle.rulefile.specs.declared.Written.{Written}
-use Rattle.rulefile.specs.declared.Written.the-variants.{Done, Refused}
+use Rattle.rule.specs.declared.Written.{Written}
+use Rattle.rule.specs.declared.Written.the-variants.{Done, Refused}
 use Rattle.making.specs.Given.{Making, makingOrder}
-use Rattle.making.specs.Making.{sheetOf, MakePromise}
+use Rattle.sheet.specs.Layout.{sheetOf}
+use Rattle.making.specs.Making.{MakePromise}
 use Rattle.sheet.specs.Opening.{openedOf}
 use Rattle.sheet.specs.declared.Opened.the-variants.{Sheet}
 use Rattle.effects.specs.Effects.{roomTurn, TurnPromise}
 use Rattle.effects.specs.declared.Run.{Run}
 use Rattle.effects.specs.declared.Answer.{Answer}
 use Rattle.effects.specs.declared.Turn.the-variants.{Move}
-use Rattle.monitor.specs.Event.{operationOf, EventPromise}
+use Rattle.sheet.specs.Layout.{operationOf}
+use Rattle.monitor.specs.Event.{EventPromise}
 
 -- the sheet made from a rule file is the published monitor of the rule's class
 pub record Demand2 (d : Drawing) (sheet : List ℕ) : Type 0 where
@@ -54,7 +56,8 @@ pub record Demand2 (d : Drawing) (sheet : List ℕ) : Type 0 where
   pub stops : (q : ℕ) → q < states d → PublishedStop d q (d .shape .class) ↔ (stopping d q ≡ true)
   pub stays : (q e : ℕ) → q < states d → e < events d → PublishedStop d q (d .shape .class) → PublishedStop d (next d q e) (d .shape .class)
 
--- every rule that the table of refusals does not refuse has its sheet made, where there is room, and no other has; a refusal is that of the first row that holds
+-- every rule that the table of refusals does not refuse has its sheet made, where there is room, and no other has; a refusal is that of the first
+-- row that holds
 pub record EveryRule : Type 0 where
   pub made : (f out : List ℕ) (w : Written) (out′ : List ℕ) → MakePromise f out w out′
       → (n : ℕ) → (w ≡ Done n) ↔ (NoRow (Making f (length out)) × (n ≡ length (sheetOf (drawingIn f))))

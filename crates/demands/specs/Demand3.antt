@@ -37,7 +37,8 @@ pub record Demand3 (d : Drawing) (sheet : List ℕ) (log : List Entry) (released
   -- it halts only where nothing, so far or longer, could be accepted
   pub halts-only : (before after : List Entry) (e : ℕ) → log ≡ before ++ halting e ∷ after → Hopeless (events d) (accepts d) (codes before ++ e ∷ [])
   -- and with one accepting pair at every such point
-  pub one-pair : count d ≡ 1 → (before after : List Entry) (x : Entry) → log ≡ before ++ x ∷ after → Hopeless (events d) (accepts d) (codes before ++ x .code ∷ []) → x .operation ≡ Halt
+  pub one-pair : count d ≡ 1 → (before after : List Entry) (x : Entry) → log ≡ before ++ x ∷ after
+      → Hopeless (events d) (accepts d) (codes before ++ x .code ∷ []) → x .operation ≡ Halt
   -- after a halt every event under K is taken and answered halt
   pub halted : (before after : List Entry) (c : ℕ) → log ≡ before ++ halting c ∷ after
       → (e : EventNo) → e .0 < events d → (output : List ℕ) (r : Answer) (memory′ output′ : List ℕ) → EventPromise sheet run e memory output r memory′ output′

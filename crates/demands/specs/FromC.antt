@@ -7,7 +7,7 @@ use mathlib.Core.Bool.{cond}
 use mathlib.Core.List.{List, [], _∷_, _++_}
 use lib.ListN.{length, take}
 use lib.Dec.{eqb}
-use Rattle.monitor.specs.Event.{operationOf}
+use Rattle.sheet.specs.Layout.{operationOf}
 use Rattle.monitor.specs.Evening.{eveningOf}
 use Rattle.history.specs.Course.{Entry}
 use Rattle.pachallu.specs.Told.{MakeForC, FreshForC, EventForC, EveningForC, runOf}

@@ -4,7 +4,7 @@ use Prim.Native.Nat.{ℕ}
 use mathlib.Core.Path.{_≡_}
 use mathlib.Core.List.{List}
 use lib.ListN.{take}
-use Rattle.rulefile.specs.declared.Written.the-variants.{Done}
+use Rattle.rule.specs.declared.Written.the-variants.{Done}
 use Rattle.making.specs.Making.{MakePromise}
 
 -- the sheet stands at the front of an output after a call of `make` on the file that was done

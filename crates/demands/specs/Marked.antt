@@ -7,7 +7,7 @@ use Rattle.rule.specs.Drawing.{Drawing, stateNo, eventNo}
 use Rattle.rule.specs.declared.Pair.{Pair}
 use Rattle.rule.specs.declared.Operation.{Operation}
 use Rattle.rule.specs.declared.Operation.the-variants.{Halt, Store, Dump}
-use Rattle.making.specs.Making.{sheetOf}
+use Rattle.sheet.specs.Layout.{sheetOf}
 use Rattle.monitor.specs.Fresh.{startOf}
 use Rattle.effects.specs.Effects.{answerIn, memoryIn, outputIn}
 use Rattle.monitor.specs.Event.{turnOf}

@@ -9,7 +9,8 @@ use Rattle.rule.specs.declared.StateNo.{StateNo}
 use Rattle.rule.specs.declared.EventNo.{EventNo}
 use Rattle.rule.specs.declared.Operation.the-variants.{Halt, Store, Dump}
 use Rattle.rule.specs.declared.Refusal.{Refusal}
-use Rattle.effects.specs.Effects.{answerIn, memoryIn, outputIn, TurnPromise, StorePromise, DumpPromise, OneAnswer, answerTold, StoreTable, storeOrder, DumpTable, dumpOrder}
+use Rattle.effects.specs.Effects.{answerIn, memoryIn, outputIn, TurnPromise, StorePromise, DumpPromise}
+use Rattle.effects.specs.Effects.{OneAnswer, answerTold, StoreTable, storeOrder, DumpTable, dumpOrder}
 use Rattle.effects.specs.declared.Run.{Run}
 use Rattle.effects.specs.declared.Turn.{Turn}
 use Rattle.effects.specs.declared.Turn.the-variants.{Move, Refused as Away}
@@ -63,4 +64,7 @@ dump-ends {held = held} {output = output} {r = r} {output′ = output′} p = by
         let full = le-leb (length output) (length held) a in
         rw (p .answer, p .output-after, full) (record { tells = refused (here (last (omega arith))); rest = λ n. refl })
     by (no a) =
-        rw (p .answer, p .output-after, lt-leb (length output) (length held) (omega arith)) (record { tells = done (alone (λ b. a (omega arith))); rest = λ n. absurd (n refl) })
+        rw (p .answer, p .output-after, lt-leb (length output) (length held) (omega arith)) (record {
+          tells = done (alone (λ b. a (omega arith)));
+          rest = λ n. absurd (n refl);
+        })

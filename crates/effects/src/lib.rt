@@ -1,6 +1,8 @@
 // What an operation does: to the run state, to the memory and to the output (document 01, "What an operation does").
 ghost use mathlib.Core.Path.{_≡_};
-ghost use Rattle.effects.specs.Effects.{freshRun, StorePromise, DumpPromise};
+ghost use Rattle.rule.specs.declared.Operation.the-variants.{Halt};
+ghost use Rattle.effects.specs.Effects.{answerIn, freshRun, StorePromise, DumpPromise};
+ghost use Rattle.effects.specs.declared.Turn.the-variants.{Move};
 use rule::EventNo;
 use rule::Operation;
 use rule::Refusal;
@@ -37,6 +39,20 @@ impl Run {
             state: initial,
             held: 0,
         }
+    }
+}
+
+// Halt: nothing is released and the event is not held; the events already held stay held.
+pub fn halt(next: StateNo, run: Run) -> Answer
+    ensures { λ r. ⌜ r ≡ answerIn (Move Halt next) (run .held) ⌝ }
+{
+    Answer::Taken {
+        operation: Operation::Halt,
+        run: Run {
+            state: next,
+            held: run.held,
+        },
+        released: 0,
     }
 }
 

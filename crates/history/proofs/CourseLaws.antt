@@ -77,11 +77,13 @@ module _ (m : Machine) where
   Right q [] = Unit {0}
   Right q (x ∷ xs) = (x .operation ≡ m .operation (m .next q (x .code))) × (x .code < m .events) × Right (m .next q (x .code)) xs
 
-  right-more : (q : ℕ) (l : List Entry) (x : Entry) → Right q l → x .operation ≡ m .operation (m .next (after (m .next) q (codes l)) (x .code)) → x .code < m .events → Right q (l ++ x ∷ [])
+  right-more : (q : ℕ) (l : List Entry) (x : Entry) → Right q l → x .operation ≡ m .operation (m .next (after (m .next) q (codes l)) (x .code))
+      → x .code < m .events → Right q (l ++ x ∷ [])
   right-more q [] x r o k = (o, k, tt)
   right-more q (y ∷ l) x r o k = (r .0, r .1, right-more (m .next q (y .code)) l x (r .2) o k)
 
-  right-at : (q : ℕ) (before rest : List Entry) (x : Entry) → Right q (before ++ x ∷ rest) → x .operation ≡ m .operation (m .next (after (m .next) q (codes before)) (x .code))
+  right-at : (q : ℕ) (before rest : List Entry) (x : Entry) → Right q (before ++ x ∷ rest)
+      → x .operation ≡ m .operation (m .next (after (m .next) q (codes before)) (x .code))
   right-at q [] rest x r = r .0
   right-at q (y ∷ before) rest x r = right-at (m .next q (y .code)) before rest x (r .2)
 
@@ -197,7 +199,8 @@ module _ (m : Machine) where
   sound L (step {log = log} {released = r} {held = h} {q = q} c e k) = step-sound L log r h q (sound L c) e k (m .operation (m .next q e)) refl
 
   -- the state after each code that was taken is one of the machine's
-  right-valid : Laws m → (q : ℕ) (before rest : List Entry) (x : Entry) → q < m .states → Right q (before ++ x ∷ rest) → m .next (after (m .next) q (codes before)) (x .code) < m .states
+  right-valid : Laws m → (q : ℕ) (before rest : List Entry) (x : Entry) → q < m .states → Right q (before ++ x ∷ rest)
+      → m .next (after (m .next) q (codes before)) (x .code) < m .states
   right-valid L q [] rest x v r = L .next-in q (x .code) v (r .1)
   right-valid L q (y ∷ before) rest x v r = right-valid L (m .next q (y .code)) before rest x (L .next-in q (y .code) v (r .1)) (r .2)
 
@@ -241,7 +244,8 @@ module _ (m : Machine) where
           halts-at-each = λ before rest x p hopeless.
               let right = right-here before rest x p in
               right-at (m .initial) before rest x right
-              ∙ S .never-halts _ (right-valid L (m .initial) before rest x (L .initial-in) right) (λ v w a. hopeless v w (accepts-more (codes before) v (x .code) ∙ a));
+              ∙ S .never-halts _ (right-valid L (m .initial) before rest x (L .initial-in) right)
+              (λ v w a. hopeless v w (accepts-more (codes before) v (x .code) ∙ a));
         }
 
     -- the state of a course is one of the machine's

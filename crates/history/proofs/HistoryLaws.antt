@@ -26,7 +26,8 @@ use Rattle.sheet.specs.declared.Opened.the-variants.{Sheet}
 use Rattle.effects.specs.Effects.{freshRun}
 use Rattle.monitor.specs.Fresh.{startBy}
 use Rattle.effects.specs.Effects.{roomTurn, answerIn, memoryIn, outputIn}
-use Rattle.monitor.specs.Event.{operationOf, cellTurn, lookOf, turnOf, stepTurn}
+use Rattle.sheet.specs.Layout.{operationOf}
+use Rattle.monitor.specs.Event.{cellTurn, lookOf, turnOf, stepTurn}
 use Rattle.effects.specs.declared.Run.{Run}
 use Rattle.monitor.specs.declared.Start.{Start}
 use Rattle.effects.specs.declared.Turn.{Turn}
@@ -126,7 +127,8 @@ module _ (m : Machine) (L : Laws m) (sheet : List ℕ) (D : Drawn m sheet) where
 
   follow-turn : (log : List Entry) (released : List ℕ) (run : Run) (memory : List ℕ) (e : EventNo) (output : List ℕ) → Follows log released run memory
       → (turn : Turn) → Seen m (run .state .0) (e .0) (run .held) (length memory) turn
-      → Follows (logAfter (answerIn turn (run .held)) (e .0) log) (releasedAfter (answerIn turn (run .held)) (outputIn turn (run .held) (e .0) memory output) released)
+      → Follows (logAfter (answerIn turn (run .held)) (e .0) log)
+      (releasedAfter (answerIn turn (run .held)) (outputIn turn (run .held) (e .0) memory output) released)
       (runAfter (answerIn turn (run .held)) run) (memoryIn turn (run .held) (e .0) memory)
   follow-turn log released run memory e output f turn (away r) = f
   follow-turn log released run memory e output f turn (went Halt p u g) =
@@ -164,7 +166,8 @@ module _ (m : Machine) (L : Laws m) (sheet : List ℕ) (D : Drawn m sheet) where
       record { course = rw t (f .course); valid = f .valid; within = omega (arith, l, f .within) }
 
   -- demand 3 of any history on the machine's sheet
-  pub history-kept : {log : List Entry} {released : List ℕ} {run : Run} {memory : List ℕ} → History sheet log released run memory → Kept m log released (take (run .held) memory)
+  pub history-kept : {log : List Entry} {released : List ℕ} {run : Run} {memory : List ℕ} → History sheet log released run memory
+      → Kept m log released (take (run .held) memory)
   history-kept h = course-kept m L (follows h .course)
 
   pub history-sharp : {log : List Entry} {released : List ℕ} {run : Run} {memory : List ℕ} → Sharp m → History sheet log released run memory → KeptSharp m log

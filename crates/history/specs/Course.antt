@@ -57,4 +57,5 @@ pub record Kept (m : Machine) (log : List Entry) (released held : List ℕ) : Ty
 
 -- and it halts at every such point
 pub record KeptSharp (m : Machine) (log : List Entry) : Type 0 where
-  pub halts-at-each : (before rest : List Entry) (x : Entry) → log ≡ before ++ x ∷ rest → Hopeless (m .events) (acceptsBy m) (codes before ++ x .code ∷ []) → x .operation ≡ Halt
+  pub halts-at-each : (before rest : List Entry) (x : Entry) → log ≡ before ++ x ∷ rest
+      → Hopeless (m .events) (acceptsBy m) (codes before ++ x .code ∷ []) → x .operation ≡ Halt

@@ -23,10 +23,10 @@ use Rattle.rule.specs.declared.Shape.{Shape}
 use Rattle.rule.proofs.ArrayLaws.{filled-at}
 use Rattle.rule.specs.declared.Refusal.the-variants.{Room}
 use Rattle.rule.specs.declared.Verdict.the-variants.{Sound}
-use Rattle.rulefile.specs.Writing.{PutPromise}
-use Rattle.rulefile.specs.declared.Written.the-variants.{Done, Refused}
-use Rattle.rulefile.proofs.WritingLaws.{put-no-room, put-done}
-use Rattle.making.specs.Making.{cellAt, endOf, sheetOf}
+use Rattle.rule.specs.Putting.{PutPromise}
+use Rattle.rule.specs.declared.Written.the-variants.{Done, Refused}
+use Rattle.rule.proofs.PutLaws.{keeps-no-room, keeps-done}
+use Rattle.sheet.specs.Layout.{cellOf, endOf, sheetOf}
 
 -- an operation's number is at most 2, and 64 times it is a byte
 mark-small : (o : Operation) → markOf o ≤ 2
@@ -95,7 +95,7 @@ low-64 table n few low i = omega (arith, low i)
 -- a sheet has a cell for each entry of the table, and six bytes
 pub length-sheet : (d : Drawing) → length (sheetOf d) ≡ length (d .table) + 6
 unfolding sheetOf digits
-length-sheet d = length-append (map (cellAt d) (d .table)) (endOf (d .shape)) ∙ rw length-map
+length-sheet d = length-append (map (cellOf d) (d .table)) (endOf (d .shape)) ∙ rw length-map
 
 -- the whole sheet: no room, or put at the front of the output
 module _ (h : Shape) (table : List ℕ) (pairs : List Pair) (out : List ℕ) where
@@ -103,7 +103,7 @@ module _ (h : Shape) (table : List ℕ) (pairs : List Pair) (out : List ℕ) whe
   sheet-size = sym (length-sheet (body h table pairs))
 
   pub sheet-no-room : length out < length table + 6 → PutPromise Sound (sheetOf (body h table pairs)) out (Refused Room) out
-  sheet-no-room l = put-no-room refl (rw sheet-size at l)
+  sheet-no-room l = keeps-no-room refl (rw sheet-size at l)
 
   pub sheet-put : {operations : List Operation} {front end : List ℕ} → h .states ≤ 64 → ((i : ℕ) → getD table i 0 < h .states)
       → length table + 6 ≤ length out → operations ≡ operationsOf (body h table pairs) → front ≡ map (withMark operations) table → end ≡ endOf h
@@ -112,13 +112,15 @@ module _ (h : Shape) (table : List ℕ) (pairs : List Pair) (out : List ℕ) whe
   unfolding sheetOf digits
   sheet-put {operations} {front} {end} few low room is-operations is-front is-end =
       let d = body h table pairs in
-      let q : front ≡ map (cellAt d) table =
+      let q : front ≡ map (cellOf d) table =
       is-front
-      ∙ map-below (h .states) (withMark operations) (cellAt d) (λ t b. rw (is-operations, filled-at (operationAt d) (replicate 64 Halt) (h .states) t Halt b (omega arith))) table low in
-      let n : length front ≡ length table = rw q (length-map table (cellAt d)) in
+      ∙ map-below (h .states) (withMark operations) (cellOf d)
+      (λ t b. rw (is-operations, filled-at (operationAt d) (replicate 64 Halt) (h .states) t Halt b (omega arith))) table low in
+      let n : length front ≡ length table = rw q (length-map table (cellOf d)) in
       let six : length (endOf h) ≡ length table + 6 - length table = omega arith in
-      put-done refl sheet-size room
-      (rw (q, is-end) (part-more (map (cellAt d) table) (endOf h) out (length table) (length table + 6 - length table) (rw (← q) n) six ∙ rw (end-at (length table))))
+      keeps-done refl sheet-size room
+      (rw (q, is-end) (part-more (map (cellOf d) table) (endOf h) out (length table) (length table + 6 - length table) (rw (← q) n) six
+      ∙ rw (end-at (length table))))
     where
       end-at : (n : ℕ) → n + (n + 6 - n) ≡ n + 6
       end-at n = omega arith

@@ -14,12 +14,13 @@ use Rattle.trailer.proofs.SoundLaws.{cells-in}
 use Rattle.rulefile.specs.Layout.{drawingIn}
 use Rattle.rulefile.specs.Reading.{verdictOn, partsOf}
 use Rattle.rulefile.specs.declared.Contents.{Contents}
-use Rattle.rulefile.specs.Writing.{PutPromise}
-use Rattle.rulefile.specs.declared.Written.{Written}
-use Rattle.rulefile.specs.declared.Written.the-variants.{Refused as Declined}
+use Rattle.rule.specs.Putting.{PutPromise}
+use Rattle.rule.specs.declared.Written.{Written}
+use Rattle.rule.specs.declared.Written.the-variants.{Refused as Declined}
 use Rattle.rulefile.proofs.PartsLaws.{sound-file, table-drawn, SoundParts, sound-parts, parts-verdict}
-use Rattle.rulefile.proofs.WritingLaws.{put-refused}
-use Rattle.making.specs.Making.{sheetOf, MakePromise}
+use Rattle.rule.proofs.PutLaws.{keeps-refused}
+use Rattle.sheet.specs.Layout.{sheetOf}
+use Rattle.making.specs.Making.{MakePromise}
 use Rattle.making.proofs.MakingLaws.{Formed, low}
 
 -- of what is drawn in a sound file a sheet can be made
@@ -58,4 +59,4 @@ module _ (f : List ℕ) (p : Contents) (is : p ≡ partsOf f) where
     made q = rw (sound-is, ← parts .table-is, ← parts .pairs-is, ← parts .drawn) q
 
   pub made-refused : (out : List ℕ) {r : Refusal} → p .verdict ≡ Refused r → MakePromise f out (Declined r) out
-  made-refused out q = put-refused (sym (parts-verdict f is) ∙ q)
+  made-refused out q = keeps-refused (sym (parts-verdict f is) ∙ q)

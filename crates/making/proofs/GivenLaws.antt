@@ -8,12 +8,14 @@ use lib.ListN.{length}
 use Rattle.rule.specs.Given.{NoRow, Given, Ends}
 use Rattle.rule.specs.declared.Refusal.{Refusal}
 use Rattle.rulefile.specs.Layout.{drawingIn}
-use Rattle.rulefile.specs.declared.Written.{Written}
-use Rattle.rulefile.specs.declared.Written.the-variants.{Done, Refused}
-use Rattle.rulefile.proofs.GivenLaws.{file-within, file-answers, put-gives, put-does, put-ends}
+use Rattle.rule.specs.declared.Written.{Written}
+use Rattle.rule.specs.declared.Written.the-variants.{Done, Refused}
+use Rattle.rule.proofs.PutLaws.{put-gives, put-does, put-ends}
+use Rattle.rulefile.proofs.GivenLaws.{file-within, file-answers}
 use Rattle.making.specs.Given.{makingOrder, Making}
-use Rattle.making.specs.Making.{sheetOf, MakePromise}
-use Rattle.rulefile.specs.Writing.{writtenTold}
+use Rattle.sheet.specs.Layout.{sheetOf}
+use Rattle.making.specs.Making.{MakePromise}
+use Rattle.rule.specs.Putting.{writtenTold}
 
 module _ {f out : List ℕ} {w : Written} {out′ : List ℕ} (kept : MakePromise f out w out′) where
   pub make-gives : (x : Refusal) → (w ≡ Refused x) ↔ Given (Making f (length out)) x makingOrder

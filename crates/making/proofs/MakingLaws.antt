@@ -15,10 +15,10 @@ use Rattle.rule.specs.Operations.{markOf, operation}
 use Rattle.rule.specs.Range.{ruleLimits, InRange}
 use Rattle.rule.specs.Reach.{target, Closed}
 use Rattle.rule.specs.declared.Shape.{Shape}
-use Rattle.sheet.specs.Opening.{back, openedOf}
+use Rattle.sheet.specs.Layout.{back, cellOf, endOf, sheetOf}
+use Rattle.sheet.specs.Opening.{openedOf}
 use Rattle.sheet.specs.declared.Opened.the-variants.{Sheet}
 use Rattle.sheet.proofs.OpeningLaws.{opened-when}
-use Rattle.making.specs.Making.{cellAt, endOf, sheetOf}
 use Rattle.making.proofs.CellLaws.{length-sheet}
 
 -- an element of a mapped list
@@ -36,7 +36,7 @@ module _ (d : Drawing) where
   at-end : (k : ℕ) → k ≤ 6 → back (sheetOf d) k ≡ getD (endOf (d .shape)) (6 - k) 0
   unfolding sheetOf
   at-end k h =
-      let front = map (cellAt d) (d .table) in
+      let front = map (cellOf d) (d .table) in
       let end = endOf (d .shape) in
       let n : length (front ++ end) - k ≡ length front + (6 - k) = rw (length-append front end, end-six (d .shape)) (omega arith) in
       rw n (getD-append-add front end (6 - k) 0)
@@ -77,8 +77,8 @@ module _ {d : Drawing} (f : Formed d) where
     unfolding sheetOf target
     sheet-cell =
         let n : s * events d + e < length (d .table) = omega (arith, digits-lt hs he, f .cells) in
-        List·getD-append (map (cellAt d) (d .table)) (endOf (d .shape)) 0 (s * events d + e) (rw length-map n)
-        ∙ getD-map (cellAt d) (d .table) (s * events d + e) n
+        List·getD-append (map (cellOf d) (d .table)) (endOf (d .shape)) 0 (s * events d + e) (rw length-map n)
+        ∙ getD-map (cellOf d) (d .table) (s * events d + e) n
 
     -- what is read back of it
     pub cell-next : getD (sheetOf d) (s * events d + e) 0 % 64 ≡ next d s e

@@ -4,9 +4,10 @@ use Prim.Native.Nat.{ℕ}
 use mathlib.Core.List.{List}
 use lib.ListN.{length}
 use Rattle.rule.specs.Given.{Table}
-use Rattle.rulefile.specs.Given.{Reading, readingOrder, Put, putOrder}
+use Rattle.rule.specs.Putting.{Put, putOrder}
+use Rattle.rulefile.specs.Given.{Reading, readingOrder}
 use Rattle.rulefile.specs.Layout.{drawingIn}
-use Rattle.making.specs.Making.{sheetOf}
+use Rattle.sheet.specs.Layout.{sheetOf}
 
 -- making a sheet gives what reading gives, and then 16
 abbrev pub makingOrder : List ℕ

@@ -1,27 +1,12 @@
--- The sheet that is made from a rule: a cell for each table entry, in the table's order, and six bytes that point back.
+-- What making a sheet from a rule file promises.
 -- Assumes nothing.
-use Prim.Native.Nat.{ℕ, _+_, _*_}
-use mathlib.Core.List.{List, _∷_, _++_, map}
-use Rattle.octets.specs.Numbers.{digits}
-use Rattle.rule.specs.Drawing.{Drawing}
-use Rattle.rule.specs.Operations.{markOf, operationAt}
-use Rattle.rule.specs.declared.Shape.{Shape}
+use Prim.Native.Nat.{ℕ}
+use mathlib.Core.List.{List}
 use Rattle.rulefile.specs.Layout.{drawingIn}
+use Rattle.sheet.specs.Layout.{sheetOf}
 use Rattle.rulefile.specs.Reading.{verdictOn}
-use Rattle.rulefile.specs.Writing.{PutPromise}
-use Rattle.rulefile.specs.declared.Written.{Written}
-
--- the cell of a move into t: next state + 64 * operation
-abbrev pub cellAt : Drawing → ℕ → ℕ
-cellAt d t = t + 64 * markOf (operationAt d t)
-
--- N, K, initial state, 77, and the distance back to the first cell
-abbrev pub endOf : Shape → List ℕ
-endOf s = s .states ∷ s .events ∷ s .initial .0 ∷ 77 ∷ digits 2 (s .states * s .events + 6)
-
--- the sheet of a drawing
-unfoldable pub sheetOf : Drawing → List ℕ
-sheetOf d = map (cellAt d) (d .table) ++ endOf (d .shape)
+use Rattle.rule.specs.Putting.{PutPromise}
+use Rattle.rule.specs.declared.Written.{Written}
 
 -- the promise of making a sheet from a rule file
 abbrev pub MakePromise : List ℕ → List ℕ → Written → List ℕ → Type 0

@@ -7,14 +7,14 @@ ghost use Rattle.rule.specs.Drawing.{body};
 ghost use Rattle.rule.specs.Operations.{markOf};
 ghost use Rattle.rule.specs.declared.Operation.the-variants.{Halt};
 ghost use Rattle.rule.specs.declared.Verdict.the-variants.{Sound};
-ghost use Rattle.rulefile.specs.Writing.{PutPromise};
-ghost use Rattle.making.specs.Making.{endOf, sheetOf};
+ghost use Rattle.rule.specs.Putting.{PutPromise};
+ghost use Rattle.sheet.specs.Layout.{endOf, sheetOf};
 use operations::into_states;
 use rule::Operation;
 use rule::Pair;
 use rule::Refusal;
 use rule::Shape;
-use rulefile::Written;
+use rule::Written;
 
 // The cells: next state + 64 * operation of a move into it.
 fn put_cells(out: &mut [u8], table: &[u8], operations: [Operation; 64])
@@ -35,12 +35,12 @@ fn put_end(out: &mut [u8], shape: Shape)
     ensures { λ _. ⌜ now (out .exit) ≡ endOf shape ⌝ }
 {
     let initial = shape.initial;
-    let size = shape.states as usize * shape.events as usize + 6;
+    let size = shape.states as usize * shape.events as usize + sheet::END;
     let bytes = [
         shape.states,
         shape.events,
         initial.0,
-        77,
+        sheet::MARK,
         (size % 256) as u8,
         (size / 256 % 256) as u8,
     ];
@@ -53,7 +53,7 @@ pub(crate) fn put(out: &mut [u8], table: &[u8], shape: Shape, pairs: [Pair; 8]) 
     ensures { λ r. ⌜ PutPromise Sound (sheetOf (body shape (now (table .entry)) pairs)) (now (out .entry)) r (now (out .exit)) ⌝ }
 {
     let count = table.len();
-    let size = count + 6;
+    let size = count + sheet::END;
     if out.len() < size {
         return Written::Refused(Refusal::Room);
     }

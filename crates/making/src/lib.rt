@@ -4,7 +4,7 @@ ghost use Rattle.making.specs.Making.{MakePromise};
 mod cells;
 
 use rule::Verdict;
-use rulefile::Written;
+use rule::Written;
 
 // Makes the sheet of a rule file at the front of the output: the refusals 1 to 10, then 16.
 pub fn make(file: &[u8], out: &mut [u8]) -> Written

@@ -22,13 +22,14 @@ use Rattle.sheet.proofs.OpeningLaws.{place-inside}
 use Rattle.sheet.specs.declared.Head.{Head}
 use Rattle.sheet.specs.declared.Opened.{Opened}
 use Rattle.sheet.specs.declared.Opened.the-variants.{Sheet, Refused as Shut}
-use Rattle.monitor.specs.Event.{operationOf, cellTurn, cellAt, unfit, lookOf, StepPromise, EventPromise}
-use Rattle.effects.specs.Effects.{roomTurn, memoryIn, outputIn, TurnPromise, StorePromise, DumpPromise}
+use Rattle.sheet.specs.Layout.{operationOf}
+use Rattle.monitor.specs.Event.{cellTurn, cellAt, unfit, lookOf, StepPromise, EventPromise}
+use Rattle.effects.specs.Effects.{roomTurn, answerIn, memoryIn, outputIn, TurnPromise, StorePromise, DumpPromise}
 use Rattle.effects.specs.declared.Run.{Run}
 use Rattle.effects.specs.declared.Turn.{Turn}
 use Rattle.effects.specs.declared.Turn.the-variants.{Move, Refused}
 use Rattle.effects.specs.declared.Answer.{Answer}
-use Rattle.effects.specs.declared.Answer.the-variants.{Taken, Refused as Declined}
+use Rattle.effects.specs.declared.Answer.the-variants.{Refused as Declined}
 
 -- what a cell says
 module _ (cell states : ℕ) (run : Run) (e : EventNo) where
@@ -113,10 +114,10 @@ module _ (h : Head) (sheet : List ℕ) (run : Run) (e : EventNo) (memory output 
   step-refused q = turned _ _ _ (rw q (record { answer = refl; memory-after = refl; output-after = refl }))
 
   module _ {o : Operation} {n : StateNo} (move : t ≡ Move o n) where
-    pub step-halt : o ≡ Halt → StepPromise h sheet run e memory output (Taken o (record { state = n; held = run .held }) 0) memory output
-    step-halt q =
+    pub step-halt : {r : Answer} → o ≡ Halt → r ≡ answerIn (Move Halt n) (run .held) → StepPromise h sheet run e memory output r memory output
+    step-halt q p =
         let w : t ≡ Move Halt n = cc in
-        turned _ _ _ (rw (w, q) (record { answer = refl; memory-after = refl; output-after = refl }))
+        turned _ _ _ (rw w (record { answer = p; memory-after = refl; output-after = refl }))
 
     pub step-store : {r : Answer} {memory′ : List ℕ} → o ≡ Store → StorePromise n run e memory r memory′
         → StepPromise h sheet run e memory output r memory′ output

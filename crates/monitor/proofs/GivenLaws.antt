@@ -22,7 +22,8 @@ use Rattle.rule.proofs.BoolLaws.{Says, clash, eq-says, le-says, lt-says, and-sa
 use Rattle.rule.proofs.RefusalLaws.{not-both}
 use Rattle.rule.proofs.TableLaws.{Within, Decides, Answers, decided, end, then, sound-exactly, numbers}
 use Rattle.sheet.specs.Given.{BadSheet}
-use Rattle.sheet.specs.Opening.{headIn, opens, openedOf}
+use Rattle.sheet.specs.Layout.{headIn}
+use Rattle.sheet.specs.Opening.{opens, openedOf}
 use Rattle.sheet.specs.declared.Opened.the-variants.{Sheet, Refused as Shut}
 use Rattle.sheet.proofs.OpeningLaws.{shut-says}
 use Rattle.effects.specs.Effects.{roomTurn, answerIn, answerTold, memoryIn, outputIn}

@@ -3,14 +3,12 @@
 use Prim.Native.Nat.{ℕ, _/_, _%_}
 use mathlib.Core.Bool.{Bool, cond, _||_}
 use mathlib.Core.List.{List}
-use lib.ListN.{length, getD}
+use lib.ListN.{length}
 use lib.Dec.{leb, ltb, eqb}
-use Rattle.rule.specs.Reach.{placeOf}
 use Rattle.rule.specs.Drawing.{stateNo}
 use Rattle.rule.specs.declared.EventNo.{EventNo}
-use Rattle.rule.specs.declared.Operation.{Operation}
-use Rattle.rule.specs.declared.Operation.the-variants.{Halt, Store, Dump}
 use Rattle.rule.specs.declared.Refusal.the-variants.{Sheet as NoSheet, Run as BadRun, Code, Cell}
+use Rattle.sheet.specs.Layout.{cellIn, operationOf}
 use Rattle.sheet.specs.Opening.{openedOf}
 use Rattle.sheet.specs.declared.Head.{Head}
 use Rattle.sheet.specs.declared.Opened.{Opened}
@@ -21,10 +19,6 @@ use Rattle.effects.specs.declared.Turn.{Turn}
 use Rattle.effects.specs.declared.Turn.the-variants.{Move, Refused}
 use Rattle.effects.specs.declared.Answer.{Answer}
 
--- the operation with a number below 3
-abbrev pub operationOf : ℕ → Operation
-operationOf mark = cond (eqb mark 0) Halt (cond (eqb mark 1) Store Dump)
-
 -- 14: the cell read has operation 3 or next state >= N
 unfoldable pub cellTurn : (cell states : ℕ) → Run → EventNo → Turn
 cellTurn cell states run e =
@@ -33,7 +27,7 @@ cellTurn cell states run e =
 
 -- the cell of the run's state and the event
 abbrev pub cellAt : Head → (sheet : List ℕ) → Run → EventNo → ℕ
-cellAt h sheet run e = getD sheet (placeOf (h .events) (run .state .0) (e .0)) 0
+cellAt h sheet run e = cellIn h sheet (run .state .0) (e .0)
 
 -- 12: state >= N, or more held than the memory is long
 abbrev pub unfit : Head → Run → (room : ℕ) → Bool

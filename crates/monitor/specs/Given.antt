@@ -15,10 +15,11 @@ use Rattle.rule.specs.declared.Refusal.{Refusal}
 use Rattle.rule.specs.declared.Refusal.the-variants.{Sheet as NoSheet, Run as BadRun, Code, Cell, Memory, Room, Log}
 use Rattle.rule.specs.declared.Verdict.the-variants.{Sound, Refused}
 use Rattle.sheet.specs.Given.{BadSheet}
-use Rattle.sheet.specs.Opening.{headIn}
+use Rattle.sheet.specs.Layout.{headIn}
 use Rattle.effects.specs.declared.Run.{Run}
+use Rattle.sheet.specs.Layout.{operationOf}
 use Rattle.effects.specs.declared.Answer.the-variants.{Refused as Declined}
-use Rattle.monitor.specs.Event.{operationOf, cellAt, EventPromise}
+use Rattle.monitor.specs.Event.{cellAt, EventPromise}
 use Rattle.monitor.specs.Evening.{callsOf, Reports}
 use Rattle.monitor.specs.declared.Evening.{Evening}
 

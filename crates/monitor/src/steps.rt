@@ -9,6 +9,7 @@ use effects::Answer;
 use effects::Run;
 use effects::Turn;
 use effects::dump;
+use effects::halt;
 use effects::store;
 use rule::EventNo;
 use rule::Operation;
@@ -72,16 +73,7 @@ pub(crate) fn step(
     match turn {
         Turn::Refused(refusal) => return Answer::Refused(refusal),
         Turn::Move(operation, next) => match operation {
-            Operation::Halt => {
-                return Answer::Taken {
-                    operation,
-                    run: Run {
-                        state: next,
-                        held: run.held,
-                    },
-                    released: 0,
-                }
-            }
+            Operation::Halt => return halt(next, run),
             Operation::Store => return store(next, run, event, memory),
             Operation::Dump => {
                 let held = run.held;

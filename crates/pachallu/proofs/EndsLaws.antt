@@ -1,4 +1,5 @@
--- How the calls from C end: each tells, in its three numbers, what the table of its call says, and a refused one leaves every buffer and the run state as it was.
+-- How the calls from C end: each tells, in its three numbers, what the table of its call says, and a refused one leaves every buffer and the run
+-- state as it was.
 -- Assumes nothing.
 use Prim.Native.Nat.{ℕ}
 use mathlib.Core.Path.{_≡_, refl, ap}
@@ -9,9 +10,9 @@ use Rattle.rule.specs.Given.{Table, Ends}
 use Rattle.rule.specs.Refusals.{verdictTold}
 use Rattle.rule.specs.declared.Verdict.{Verdict}
 use Rattle.rule.specs.declared.Verdict.the-variants.{Sound, Refused as Unsound}
-use Rattle.rulefile.specs.declared.Written.{Written}
-use Rattle.rulefile.specs.declared.Written.the-variants.{Done, Refused as Unwritten}
-use Rattle.rulefile.specs.Writing.{writtenTold}
+use Rattle.rule.specs.declared.Written.{Written}
+use Rattle.rule.specs.declared.Written.the-variants.{Done, Refused as Unwritten}
+use Rattle.rule.specs.Putting.{writtenTold}
 use Rattle.monitor.specs.Event.{EventPromise}
 use Rattle.monitor.specs.Fresh.{startOf}
 use Rattle.monitor.specs.Given.{FreshRow, freshOrder, EventRow, eventOrder, EveningRow, eveningOrder}
@@ -22,8 +23,9 @@ use Rattle.effects.specs.Effects.{freshRun}
 use Rattle.effects.specs.declared.Run.{Run}
 use Rattle.effects.specs.declared.Answer.{Answer}
 use Rattle.effects.specs.declared.Answer.the-variants.{Taken, Refused}
+use Rattle.pachallu.specs.Told.{madeOf, PutForC, startedOf, FreshForC, runOf, answeredOf}
+use Rattle.pachallu.specs.Told.{EventForC, madeTold, startedTold, answeredTold, PutKept, FreshKept, EventKept}
 use Rattle.pachallu.specs.Told.{EveningForC, eveningTold, EveningKeptForC}
-use Rattle.pachallu.specs.Told.{madeOf, PutForC, startedOf, FreshForC, runOf, answeredOf, EventForC, madeTold, startedTold, answeredTold, PutKept, FreshKept, EventKept}
 use Rattle.pachallu.specs.declared.Made.{Made}
 use Rattle.pachallu.specs.declared.Started.{Started}
 use Rattle.pachallu.specs.declared.Answered.{Answered}

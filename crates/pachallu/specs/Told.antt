@@ -9,8 +9,8 @@ use Rattle.rule.specs.Refusals.{tell, toldOf, verdictTold}
 use Rattle.rule.specs.declared.Told.{Told}
 use Rattle.rule.specs.declared.Verdict.{Verdict}
 use Rattle.rule.specs.declared.Verdict.the-variants.{Sound, Refused as Unsound}
-use Rattle.rulefile.specs.declared.Written.{Written}
-use Rattle.rulefile.specs.declared.Written.the-variants.{Done, Refused as Unwritten}
+use Rattle.rule.specs.declared.Written.{Written}
+use Rattle.rule.specs.declared.Written.the-variants.{Done, Refused as Unwritten}
 use Rattle.making.specs.Making.{MakePromise}
 use Rattle.printed.specs.Printing.{PrintPromise}
 use Rattle.monitor.specs.Fresh.{startOf}

@@ -8,7 +8,7 @@ use rule::EventNo;
 use rule::StateNo;
 use rule::Told;
 use rule::Verdict;
-use rulefile::Written;
+use rule::Written;
 
 // What making a sheet or printing a monitor came to. A refusal of 0 is "done".
 #[repr(C)]

@@ -12,7 +12,8 @@ use Rattle.rule.specs.Classes.{movesOut, forbids, forbidsSome}
 use Rattle.rule.specs.Refusals.{firstOf, firstBelow, firstCell, entries, members, exceeds, excess, moves, stopped, empties}
 use Rattle.rule.specs.Range.{inRange}
 use Rattle.trailer.specs.Conditions.{framed, classed, ranged, placed}
-use Rattle.rulefile.specs.Layout.{trailerOf, upTo, drawingIn, flatUpTo}
+use Rattle.trailer.specs.Layout.{trailerOf}
+use Rattle.rulefile.specs.Layout.{upTo, drawingIn, flatUpTo}
 use Rattle.rulefile.specs.Reading.{verdictOn}
 use Rattle.printed.specs.Text.{decimal, rest, line}
 use Rattle.printed.specs.Printing.{header, cellLine, cellOf, rowLines, cellLines, thoseBelow, stopLine, monitorText, refusalLine, textOf}

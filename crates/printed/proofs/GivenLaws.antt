@@ -10,10 +10,10 @@ use lib.ListN.{length}
 use Rattle.rule.specs.Given.{NoRow, NoRows, Given, row, last, Ends}
 use Rattle.rule.specs.declared.Refusal.{Refusal}
 use Rattle.rule.proofs.TableLaws.{Within, end}
-use Rattle.rulefile.specs.Writing.{writtenTold}
-use Rattle.rulefile.specs.declared.Written.{Written}
-use Rattle.rulefile.specs.declared.Written.the-variants.{Done, Refused}
-use Rattle.rulefile.proofs.GivenLaws.{put-gives, put-does, put-ends}
+use Rattle.rule.specs.Putting.{writtenTold}
+use Rattle.rule.specs.declared.Written.{Written}
+use Rattle.rule.specs.declared.Written.the-variants.{Done, Refused}
+use Rattle.rule.proofs.PutLaws.{put-gives, put-does, put-ends}
 use Rattle.printed.specs.Printing.{textMax, textOf, PrintPromise, Printing, printingOrder}
 use Rattle.printed.proofs.PrintLaws.{text-short}
 

@@ -20,9 +20,9 @@ use Rattle.rule.proofs.RefusalLaws.{sound-or}
 use Rattle.rulefile.specs.Layout.{drawingIn}
 use Rattle.rulefile.specs.Reading.{verdictOn, partsOf}
 use Rattle.rulefile.specs.declared.Contents.{Contents}
-use Rattle.rulefile.specs.declared.Written.the-variants.{Done, Refused}
+use Rattle.rule.specs.declared.Written.the-variants.{Done, Refused}
 use Rattle.rulefile.proofs.PartsLaws.{sound-file, sound-parts, parts-verdict, table-order, table-inside}
-use Rattle.rulefile.proofs.WritingLaws.{put-no-room, put-done}
+use Rattle.rule.proofs.PutLaws.{keeps-no-room, keeps-done}
 use Rattle.rulefile.proofs.WellLaws.{file-well, file-shaped}
 use Rattle.printed.specs.Placing.{Put}
 use Rattle.printed.specs.Printing.{header, cellLines, stopLine, refusalLine, monitorText, textMax, textOf, PrintPromise}
@@ -76,14 +76,14 @@ module _ (f : List ℕ) where
       nothing = put-none m refl
 
       pub print-no-room : length (part ++ out) < size → PrintPromise f out (Refused Room) (part ++ out)
-      print-no-room h = rw nothing (put-no-room refl (rw (nothing, size-is) at h))
+      print-no-room h = rw nothing (keeps-no-room refl (rw (nothing, size-is) at h))
 
       pub print-put : {n : ℕ} {out′ : List ℕ} → size ≤ length (part ++ out) → Put (part ++ out) 0 text n out′ → PrintPromise f out (Done n) out′
       print-put h q =
           let fits : length (textOf f) ≤ length out = rw (nothing, size-is) at h in
           let put = rw (nothing, text-found) at q in
           let n-is = put-size put (omega (arith, text-short)) in
-          put-done refl n-is (rw n-is fits) (rw n-is (put-all put fits))
+          keeps-done refl n-is (rw n-is fits) (rw n-is (put-all put fits))
 
   -- its table lies in the file
   module _ {p : Contents} (is : p ≡ partsOf f) where

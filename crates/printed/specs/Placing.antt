@@ -14,7 +14,7 @@ lastPlace = 18446744073709551615
 unfoldable pub laid : List ℕ → ℕ → List ℕ → List ℕ
 laid out at bytes = sets out at bytes
 
--- the bytes are put into the output from `at` on, and `next` is the place after them
+-- the bytes are put into the output from `at` on, and `next` is the place after them; no output reaches past the last place
 pub record Put (out : List ℕ) (at : ℕ) (bytes : List ℕ) (next : ℕ) (out′ : List ℕ) : Type 0 where
   pub short : length out ≤ lastPlace
   pub place : next ≡ min (at + length bytes) lastPlace

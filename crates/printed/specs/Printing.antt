@@ -16,11 +16,11 @@ use Rattle.rule.specs.declared.Verdict.{Verdict}
 use Rattle.rule.specs.declared.Verdict.the-variants.{Sound, Refused as Unsound}
 use Rattle.rulefile.specs.Layout.{drawingIn, flatUpTo}
 use Rattle.rulefile.specs.Reading.{verdictOn}
-use Rattle.rulefile.specs.Writing.{PutPromise}
-use Rattle.rulefile.specs.declared.Written.{Written}
+use Rattle.rule.specs.Putting.{PutPromise}
+use Rattle.rule.specs.declared.Written.{Written}
 use Rattle.printed.specs.Text.{decimal, line}
 use Rattle.rule.specs.Given.{Table, NoRows}
-use Rattle.rulefile.specs.Given.{Put as Puts, putOrder}
+use Rattle.rule.specs.Putting.{Put as Puts, putOrder}
 
 -- the words rule, stop, refused, -
 abbrev pub ruleWord : List ℕ

@@ -11,7 +11,7 @@ use rule::Operation;
 use rule::Refusal;
 use rule::Shape;
 use rule::Verdict;
-use rulefile::Written;
+use rule::Written;
 
 // An output of so many bytes has room for every text.
 pub const TEXT_MAX: usize = 32768;

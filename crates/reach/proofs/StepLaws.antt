@@ -38,7 +38,8 @@ module _ (table : List ℕ) (k : ℕ) where
   moves-more s x e out t r io it ir = rw add-one (cc)
 
   -- the same of a cell that is read at its place
-  pub moves-read : (s x e out i r : ℕ) → out ≡ withMoves table k s x e → i ≡ placeOf k s e → r ≡ including out (getD table i 0) → r ≡ withMoves table k s x (e + 1)
+  pub moves-read : (s x e out i r : ℕ) → out ≡ withMoves table k s x e → i ≡ placeOf k s e → r ≡ including out (getD table i 0)
+      → r ≡ withMoves table k s x (e + 1)
   moves-read s x e out i r io q ir = moves-more s x e out (getD table i 0) r io (target-at s e i q) ir
 
   -- all events of a row
@@ -104,7 +105,8 @@ module _ (table : List ℕ) (k x y : ℕ) where
     below-stop n g l = below-to n l (λ i h. lowest-first 64 rest i (omega arith))
 
     -- the moves from the lowest member left
-    pub below-more : (r : ℕ) → x < 2 ^ 64 → (rest ≡ 0 → ⊥) → r ≡ withMoves table k (s + trailingZeros 64 rest) out k → r ≡ movedBelow table k x y (s + trailingZeros 64 rest + 1)
+    pub below-more : (r : ℕ) → x < 2 ^ 64 → (rest ≡ 0 → ⊥) → r ≡ withMoves table k (s + trailingZeros 64 rest) out k
+        → r ≡ movedBelow table k x y (s + trailingZeros 64 rest + 1)
     unfolding movedBelow
     below-more r h d is =
         rw (add-one, lowest-has x s rest ir h d)

@@ -12,7 +12,8 @@ use Rattle.rule.specs.Constructions as built
 use Rattle.rule.specs.Constructions.{PublishedMove, PublishedStop}
 use Rattle.rule.specs.WellDrawn.{WellDrawn}
 use Rattle.rule.specs.declared.Operation.{Operation}
-use Rattle.rule.proofs.PublishedLaws.{safety-moves, safety-stops, guarantee-moves, guarantee-stops, obligation-moves, obligation-stops, response-moves, response-stops}
+use Rattle.rule.proofs.PublishedLaws.{safety-moves, safety-stops, guarantee-moves, guarantee-stops}
+use Rattle.rule.proofs.PublishedLaws.{obligation-moves, obligation-stops, response-moves, response-stops}
 
 module _ (d : Drawing) (well : WellDrawn d) where
   module _ (q e : ℕ) (h : q < states d) (k : e < events d) (a : Operation) (t : ℕ) where

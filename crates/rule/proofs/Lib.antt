@@ -15,6 +15,7 @@ pub mod RefusalLaws
 pub mod GivenLaws
 pub mod NumberLaws
 pub mod TableLaws
+pub mod PutLaws
 -- operations, stopping states and classes
 pub mod PairLaws
 pub mod OrderLaws

@@ -9,7 +9,8 @@ use native.Mathlib.Omega.{arith}
 use lib.Bits.{bitXor}
 use Rattle.rule.specs.Sets.{has, including}
 use Rattle.rule.specs.Reach.{target, Closed, withMoves, movedBelow, movedSet}
-use Rattle.rule.proofs.SetLaws.{below-or, true-or, including-keeps, including-new, including-from, including-lt, including-fits, same-members, xor-in, xor-out}
+use Rattle.rule.proofs.SetLaws.{below-or, true-or, including-keeps, including-new, including-from}
+use Rattle.rule.proofs.SetLaws.{including-lt, including-fits, same-members, xor-in, xor-out}
 use Rattle.rule.proofs.BoolLaws.{clash}
 
 -- the moves from one state
@@ -49,7 +50,8 @@ pub record Move (table : List ℕ) (k x i t : ℕ) : Type 0 where
 -- the moves from all members of x, added to y
 module _ (table : List ℕ) (k x y : ℕ) where
   -- what is so of the set before and of the set with the moves from i, where i is a member, is so of the set after i
-  step : (P : ℕ → Type 0) (i : ℕ) → (has x i ≡ false → P (movedBelow table k x y i)) → (has x i ≡ true → P (withMoves table k i (movedBelow table k x y i) k)) → P (movedBelow table k x y (suc i))
+  step : (P : ℕ → Type 0) (i : ℕ) → (has x i ≡ false → P (movedBelow table k x y i))
+      → (has x i ≡ true → P (withMoves table k i (movedBelow table k x y i) k)) → P (movedBelow table k x y (suc i))
   unfolding movedBelow
   step P i f g = true-or (has x i) (λ m. rw m (g m)) (λ m. rw m (f m))
 
@@ -75,7 +77,8 @@ module _ (table : List ℕ) (k x y : ℕ) where
       (λ b. below-new i s e b m l g)
       (λ b. let q : s ≡ i = omega arith in clash m (rw q out)))
       (λ mi. below-or s i
-      (λ b. moves-hold table k i (movedBelow table k x y i) (λ z. has z (target table k s e) ≡ true) k (λ z f u. including-keeps z (target table k i f) (target table k s e)) (below-new i s e b m l g))
+      (λ b. moves-hold table k i (movedBelow table k x y i) (λ z. has z (target table k s e) ≡ true) k
+      (λ z f u. including-keeps z (target table k i f) (target table k s e)) (below-new i s e b m l g))
       (λ b. let q : s ≡ i = omega arith in rw q (moves-new table k i (movedBelow table k x y i) k e l (rw q at g))))
 
   below-from : (i t : ℕ) → has (movedBelow table k x y i) t ≡ true → (has y t ≡ true) ⊎ Move table k x i t
@@ -134,7 +137,8 @@ module _ (table : List ℕ) (n k x : ℕ) (h : x < 2 ^ 64) where
   there t l m =
       ⊎-elim
       (λ i. moved-keeps table n k M t i)
-      (λ (w : Move table k F n t). rw (w .leads) at (moved-new table n k M (w .state) (w .event) (w .below) (fresh-in (w .state) (w .member)) (w .known) (rw (w .leads) l)))
+      (λ (w : Move table k F n t). rw (w .leads) at (moved-new table n k M (w .state) (w .event) (w .below) (fresh-in (w .state) (w .member))
+      (w .known) (rw (w .leads) l)))
       (below-from table k F M n t m)
 
   back : (t : ℕ) → t < 64 → has (movedSet table n k M) t ≡ true → has (movedBelow table k F M n) t ≡ true
@@ -142,7 +146,8 @@ module _ (table : List ℕ) (n k x : ℕ) (h : x < 2 ^ 64) where
       ⊎-elim
       (λ i. below-keeps table k F M n t i)
       (λ (w : Move table k M n t). rw (w .leads) at (true-or (has x (w .state))
-      (λ i. below-keeps table k F M n (target table k (w .state) (w .event)) (moved-new table n k x (w .state) (w .event) (w .below) i (w .known) (rw (w .leads) l)))
+      (λ i. below-keeps table k F M n (target table k (w .state) (w .event))
+      (moved-new table n k x (w .state) (w .event) (w .below) i (w .known) (rw (w .leads) l)))
       (λ o. below-new table k F M n (w .state) (w .event) (w .below) (xor-in M x (w .state) (w .member) o) (w .known) (rw (w .leads) l))))
       (moved-from table n k M t m)
 

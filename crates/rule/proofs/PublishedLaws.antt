@@ -11,7 +11,8 @@ use Rattle.rule.specs.Drawing.{Drawing, states, events, count, next, pai
 use Rattle.rule.specs.Operations.{greater, smaller, sideP, sideR, valueOf, smallestOf, reachOf, operationAt, operation}
 use Rattle.rule.specs.Stopping.{stopping}
 use Rattle.rule.specs.Classes.{Safety, Guarantee, Response}
-use Rattle.rule.specs.Published.{dump, halt, store, Reaches, ReachesNone, SafetyMove, SafetyStop, GuaranteeMove, GuaranteeStop, Beta, Gamma, PairValue, BelowAll, ObligationMove, infimum, ObligationStop, ResponseMove, as-guarantee, ResponseStop, _⊑_}
+use Rattle.rule.specs.Published.{dump, halt, store, Reaches, ReachesNone, SafetyMove, SafetyStop, GuaranteeMove, GuaranteeStop, Beta}
+use Rattle.rule.specs.Published.{Gamma, PairValue, BelowAll, ObligationMove, infimum, ObligationStop, ResponseMove, as-guarantee, ResponseStop, _⊑_}
 use Rattle.rule.specs.WellDrawn.{WellDrawn}
 use Rattle.rule.specs.declared.Pair.{Pair}
 use Rattle.rule.specs.declared.Operation.{Operation}

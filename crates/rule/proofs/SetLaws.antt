@@ -332,7 +332,8 @@ lowest-in k x h d = has-of-bit x (trailingZeros k x) (lowest k x h d)
     lowest zero x h d = absurd (d (omega arith))
     lowest (suc k) x h d =
         ⊎-elim
-        (λ z. rw (trailing-even k x (omega arith), ← bit-half x (trailingZeros k (x / 2))) (lowest k (x / 2) (omega (arith, pow-suc 2 k)) (λ e. d (omega arith))))
+        (λ z. rw (trailing-even k x (omega arith), ← bit-half x (trailingZeros k (x / 2)))
+        (lowest k (x / 2) (omega (arith, pow-suc 2 k)) (λ e. d (omega arith))))
         (λ o. rw (trailing-odd k x (omega arith)) o)
         (bit-cases x 0)
 

@@ -41,6 +41,7 @@ module _ (d : Drawing) (closed : Closed (d .table) (states d) (events d)) (small
   unfolding stopping stopsBySome
   stopping-says whole =
       in-words
-      (some-says (λ ps. stopsBySome ps (reachOf d q) q) (λ p. stopsBy p (reachOf d q) q) refl (λ p ps. refl) (λ p. Out (p .p) q × ReachesNone d (p .r) q) stops-says (d .pairs))
+      (some-says (λ ps. stopsBySome ps (reachOf d q) q) (λ p. stopsBy p (reachOf d q) q) refl (λ p ps. refl)
+      (λ p. Out (p .p) q × ReachesNone d (p .r) q) stops-says (d .pairs))
       (λ g. record { pair = g .0; used = omega (arith, g .1); outside = g .2 .0; reaches-none = g .2 .1 })
       (λ g. (g .pair, omega (arith, g .used), (g .outside, g .reaches-none)))

@@ -9,6 +9,7 @@ pub mod Stopping
 pub mod Classes
 pub mod Refusals
 pub mod Given
+pub mod Putting
 pub mod Published
 pub mod Constructions
 pub mod WellDrawn

@@ -15,6 +15,10 @@ ruleLimits = record { states = 64; events = 32 }
 abbrev pub mostPairs : ℕ
 mostPairs = 8
 
+-- the longest note
+abbrev pub longestNote : ℕ
+longestNote = 1024
+
 -- x is one of lo to hi; x is not one of them
 abbrev pub between : (lo hi x : ℕ) → Bool
 between lo hi x = leb lo x && leb x hi

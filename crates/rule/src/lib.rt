@@ -68,6 +68,9 @@ impl Rule {
     pub const EVENTS: u8 = 32;
 
     pub const PAIRS: u8 = 8;
+
+    // The longest note.
+    pub const NOTE: usize = 1024;
 }
 
 // What the monitor does at a move, rising.
@@ -114,6 +117,12 @@ pub enum Refusal {
 // What checking comes to.
 pub enum Verdict {
     Sound,
+    Refused(Refusal),
+}
+
+// What a call that writes comes to: so many bytes at the front of the output, or a refusal.
+pub enum Written {
+    Done(usize),
     Refused(Refusal),
 }
 

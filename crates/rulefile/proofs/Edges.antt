@@ -20,8 +20,10 @@ use Rattle.rule.specs.declared.Refusal.the-variants.{Frame, Range, Distance}
 use Rattle.rule.specs.declared.Verdict.the-variants.{Sound, Refused}
 use Rattle.rule.proofs.SetLaws.{below-or}
 use Rattle.rule.proofs.TableLaws.{NoneOf, own-row, behind}
-use Rattle.trailer.specs.Conditions.{tableBack, pairsBack, framed, classed, ranged, placed}
-use Rattle.rulefile.specs.Layout.{trailerOf, trailerIn, upTo, flatUpTo, drawingIn, trailerOut, fileOf}
+use Rattle.trailer.specs.Layout.{tableBack, pairsBack}
+use Rattle.trailer.specs.Conditions.{framed, classed, ranged, placed}
+use Rattle.trailer.specs.Layout.{trailerOf, trailerIn, trailerOut}
+use Rattle.rulefile.specs.Layout.{upTo, flatUpTo, drawingIn, fileOf}
 use Rattle.rulefile.specs.Reading.{verdictOn, readingOf}
 use Rattle.rulefile.specs.Given.{bad-size, BadRange, bad-numbers, bad-m, byte-5, not-one, to-table, to-pairs, short}
 use Rattle.rulefile.specs.Given.{note, Reading, at-1, at-3, at-4, drawing}
@@ -47,7 +49,8 @@ pub record Samples : Type 0 where
   pub bytes : length (sample 1 0) ≡ 29
 
 pub samples : Samples
-unfolding sample readingOf verdictOn fileOf firstOf firstBelow firstCell entries members exceeds excess moves stopped empties trailerOf drawingIn upTo flatUpTo framed classed ranged inRange placed trailerOut valueOf digits has isEmpty namesPast target movesInto forbids forbidsSome stopsBy
+unfolding sample readingOf verdictOn fileOf firstOf firstBelow firstCell entries members exceeds excess moves stopped empties trailerOf drawingIn upTo
+    flatUpTo framed classed ranged inRange placed trailerOut valueOf digits has isEmpty namesPast target movesInto forbids forbidsSome stopsBy
 samples = record { states-64 = refl; states-65 = refl; note-1024 = refl; note-1025 = refl; shortest = refl; bytes = refl }
 
 -- of every file
@@ -81,7 +84,7 @@ module _ (f : List ℕ) where
   noteSize = length f - tableBack shape
 
   -- a note of 1,024 is not refused 4, where the back distances are right
-  pub not-refused-1024 : noteSize ≡ 1024 → trailerIn f .table ≡ tableBack shape → trailerIn f .pairs ≡ pairsBack shape
+  pub not-refused-1024 : noteSize ≡ 1024 → trailerIn f .tableback ≡ tableBack shape → trailerIn f .pairsback ≡ pairsBack shape
       → readingOf f .verdict ≡ Refused Distance → ⊥
   not-refused-1024 e t p v = bad (own-row (file-within f) (read-gives f Distance .0 v))
     where

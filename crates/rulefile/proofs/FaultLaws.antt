@@ -1,6 +1,6 @@
 -- What the tests of the rows 1 to 4 say where they fail, in the words of the table.
 -- Assumes nothing.
-use Prim.Native.Nat.{ℕ, zero, suc, _+_, _-_, _≤_, _<_}
+use Prim.Native.Nat.{ℕ, zero, suc, _+_, _-_, _≤_}
 use native.Mathlib.Omega.{arith}
 use mathlib.Core.Path.{_≡_, refl, sym, ap, _∙_}
 use mathlib.Core.Bool.{Bool, true, false, not, _&&_}
@@ -18,7 +18,8 @@ use Rattle.rule.proofs.BoolLaws.{Fails, fails-say, le-fails, eq-fails, and-fail
 use Rattle.rule.proofs.RangeLaws.{outside-fails, range-fails}
 use Rattle.rule.proofs.SetLaws.{below-or}
 use Rattle.rule.proofs.RefusalLaws.{not-both, refuse-refused}
-use Rattle.trailer.specs.Conditions.{framed, classed, ranged, placed, tableBack, pairsBack}
+use Rattle.trailer.specs.Layout.{tableBack, pairsBack}
+use Rattle.trailer.specs.Conditions.{framed, classed, ranged, placed}
 use Rattle.trailer.specs.declared.Trailer.{Trailer}
 use Rattle.rulefile.specs.Given.{trailerByte, BadFrame, bad-size, byte-10, byte-11, BadClass, BadRange, bad-numbers, bad-m, byte-5, not-one}
 use Rattle.rulefile.specs.Given.{BadDistance, to-table, to-pairs, short, note}
@@ -93,7 +94,7 @@ pub distance-fails : (t : Trailer) (size : ℕ) → Fails (placed t size) (BadDi
 unfolding placed
 distance-fails t size =
     Iff·trans
-    (and-fails (eq-fails (t .pairs) (pairsBack (t .shape))) (and-fails (eq-fails (t .table) (tableBack (t .shape)))
+    (and-fails (eq-fails (t .pairsback) (pairsBack (t .shape))) (and-fails (eq-fails (t .tableback) (tableBack (t .shape)))
     (and-fails (le-fails (tableBack (t .shape)) size) (le-fails (size - tableBack (t .shape)) 1024)))) (
       ⊎-elim to-pairs (⊎-elim to-table (⊎-elim short note)),
       λ b. elim b [ to-pairs h ↦ inl h | to-table h ↦ inr (inl h) | short h ↦ inr (inr (inl h)) | note h ↦ inr (inr (inr h)) ],

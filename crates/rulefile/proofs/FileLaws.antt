@@ -19,12 +19,14 @@ use Rattle.rule.specs.declared.Pair.{Pair}
 use Rattle.rule.specs.declared.Shape.{Shape}
 use Rattle.rule.specs.declared.Verdict.the-variants.{Sound}
 use Rattle.rule.proofs.ClassLaws.{well-drawn}
-use Rattle.trailer.specs.Conditions.{pairsBack, tableBack, framed, placed}
+use Rattle.trailer.specs.Layout.{pairsBack, tableBack}
+use Rattle.trailer.specs.Conditions.{framed, placed}
 use Rattle.trailer.proofs.SoundLaws.{classed-says, ranged-says, cells-in}
-use Rattle.rulefile.specs.Layout.{trailerOf, trailerIn, upTo, pairIn, pairBytes, drawingIn, pairOut, pairsOut, trailerOut, fileOf}
+use Rattle.trailer.specs.Layout.{trailerOf, trailerIn, trailerOut}
+use Rattle.rulefile.specs.Layout.{upTo, pairIn, pairBytes, drawingIn, pairOut, pairsOut, fileOf}
 use Rattle.rulefile.specs.Reading.{verdictOn, readingOf}
 use Rattle.rulefile.proofs.ListLaws.{getD-upTo, flat-ext}
-use Rattle.rulefile.proofs.PartLaws.{drop-end, part-on, part-on-back, upTo-take, flat-take, flat-at}
+use Rattle.rulefile.proofs.CutLaws.{drop-end, part-on, part-on-back, upTo-take, flat-take, flat-at}
 use Rattle.rulefile.proofs.LayoutLaws.{length-pairOut, length-pairsOut, length-trailerOut}
 use Rattle.rulefile.proofs.PartsLaws.{SoundFile}
 use Rattle.rulefile.proofs.DrawnLaws.{SoundDrawing}
@@ -48,7 +50,7 @@ pair-read ps m i h a b =
     rw (← drop-drop 8 (16 * i) (pairsOut ps m), e, number-read 8 (q .r) l a, number-on 8 (q .r) l, number-read 8 (q .p) (d .0) b)
 
 -- a trailer, written and read back
-trailer-read : (s : Shape) → tableBack s < 65536 → trailerOf (trailerOut s) ≡ record { shape = s; table = tableBack s; pairs = pairsBack s }
+trailer-read : (s : Shape) → tableBack s < 65536 → trailerOf (trailerOut s) ≡ record { shape = s; tableback = tableBack s; pairsback = pairsBack s }
 unfolding trailerOf trailerOut
 trailer-read s h =
     let l = digits 2 (pairsBack s) ++ (72 ∷ 82 ∷ []) in
@@ -97,7 +99,7 @@ module _ (d : Drawing) (s : SoundDrawing d) where
   end-read = rw last-cut (drop-end (d .note ++ (d .table ++ C)) T 12 (length-trailerOut (d .shape)))
 
   -- what its trailer says
-  pub trailer-in : trailerIn (fileOf d) ≡ record { shape = d .shape; table = tableBack (d .shape); pairs = pairsBack (d .shape) }
+  pub trailer-in : trailerIn (fileOf d) ≡ record { shape = d .shape; tableback = tableBack (d .shape); pairsback = pairsBack (d .shape) }
   trailer-in =
       let k = cells-in (s .range) in
       let m = s .range .few-pairs in
@@ -110,7 +112,8 @@ module _ (d : Drawing) (s : SoundDrawing d) where
 
   table-read : take (states d * events d) (drop (length (fileOf d) - tableBack (d .shape)) (fileOf d)) ≡ d .table
   table-read =
-      let e : drop (length (fileOf d) - tableBack (d .shape)) (fileOf d) ≡ d .table ++ (C ++ T) = rw first-cut (drop-end (d .note) (d .table ++ (C ++ T)) _ length-table-on) in
+      let e : drop (length (fileOf d) - tableBack (d .shape)) (fileOf d) ≡ d .table ++ (C ++ T) = rw first-cut
+      (drop-end (d .note) (d .table ++ (C ++ T)) _ length-table-on) in
       rw e (take-at (d .table) (C ++ T) _ (s .table-whole))
 
   bytes-read : pairBytes (d .shape) (fileOf d) ≡ C
@@ -204,7 +207,7 @@ module _ (t : List ℕ) (long : length t ≡ 12) where
         ← drop-cons t 0 0 (omega arith),
       )
 
-  trailer-back : Bytes t → trailerOf t .table ≡ tableBack (trailerOf t .shape) → trailerOf t .pairs ≡ pairsBack (trailerOf t .shape)
+  trailer-back : Bytes t → trailerOf t .tableback ≡ tableBack (trailerOf t .shape) → trailerOf t .pairsback ≡ pairsBack (trailerOf t .shape)
       → drop 10 t ≡ 72 ∷ 82 ∷ [] → trailerOut (trailerOf t .shape) ≡ t
   unfolding trailerOf trailerOut
   trailer-back b x y m =
@@ -229,7 +232,8 @@ module _ (f : List ℕ) (b : Bytes f) (s : SoundFile f) where
   all-pairs-back =
       let w = s .placed .within in
       let a = length f - pairsBack S in
-      pairs-back (pairBytes S f) (S .pairs) (length-take-le _ (drop a f) (rw length-drop (omega arith))) (bytes-take (16 * S .pairs) (drop a f) (bytes-drop a f b))
+      pairs-back (pairBytes S f) (S .pairs) (length-take-le _ (drop a f) (rw length-drop (omega arith)))
+      (bytes-take (16 * S .pairs) (drop a f) (bytes-drop a f b))
 
   pub file-back : fileOf (drawingIn f) ≡ f
   unfolding fileOf drawingIn

@@ -10,7 +10,8 @@ use Rattle.octets.proofs.NumberLaws.{length-digits}
 use Rattle.rule.specs.Drawing.{noPair}
 use Rattle.rule.specs.declared.Pair.{Pair}
 use Rattle.rule.specs.declared.Shape.{Shape}
-use Rattle.rulefile.specs.Layout.{pairOut, pairsOut, trailerOut}
+use Rattle.trailer.specs.Layout.{trailerOut}
+use Rattle.rulefile.specs.Layout.{pairOut, pairsOut}
 use Rattle.rulefile.proofs.ListLaws.{length-flatUpTo, flat-ext}
 
 pub length-pairOut : (p : Pair) → length (pairOut p) ≡ 16

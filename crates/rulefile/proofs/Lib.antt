@@ -13,7 +13,7 @@ pub mod RowLaws
 pub mod GivenLaws
 pub mod Edges
 -- the round trips
-pub mod PartLaws
+pub mod CutLaws
 pub mod DrawnLaws
 pub mod FileLaws
 pub mod RoundTrips

@@ -13,9 +13,10 @@ use Rattle.rule.proofs.RefusalLaws.{first-sound}
 use Rattle.rule.specs.declared.Refusal.the-variants.{Frame, Class, Range, Distance}
 use Rattle.rule.specs.declared.Verdict.{Verdict}
 use Rattle.rule.specs.declared.Verdict.the-variants.{Sound, Refused}
-use Rattle.trailer.specs.Conditions.{tableBack, pairsBack}
+use Rattle.trailer.specs.Layout.{tableBack, pairsBack}
 use Rattle.trailer.proofs.SoundLaws.{Framed, framed-says, classed-says, ranged-says, Placed, placed-says, passed}
-use Rattle.rulefile.specs.Layout.{trailerIn, drawingIn}
+use Rattle.trailer.specs.Layout.{trailerIn}
+use Rattle.rulefile.specs.Layout.{drawingIn}
 use Rattle.rulefile.specs.Reading.{verdictOn, partsBy, partsOf}
 use Rattle.rulefile.specs.declared.Contents.{Contents}
 use Rattle.rulefile.proofs.ListLaws.{length-upTo, take-padded}

@@ -17,10 +17,12 @@ use Rattle.rule.specs.declared.Refusal.{Refusal}
 use Rattle.rule.specs.declared.Refusal.the-variants.{Frame}
 use Rattle.rule.specs.declared.Verdict.{Verdict}
 use Rattle.rule.specs.declared.Verdict.the-variants.{Sound, Refused}
-use Rattle.trailer.specs.Conditions.{framed, frame, tableBack, headConditions}
+use Rattle.trailer.specs.Layout.{tableBack}
+use Rattle.trailer.specs.Conditions.{framed, frame, headConditions}
 use Rattle.trailer.specs.declared.Trailer.{Trailer}
 use Rattle.trailer.proofs.SoundLaws.{framed-says, Headed, Placed, headed-sound, cells-in}
-use Rattle.rulefile.specs.Layout.{trailerOf, trailerIn, pairIn, pairBytes, upTo, drawingIn}
+use Rattle.trailer.specs.Layout.{trailerOf, trailerIn}
+use Rattle.rulefile.specs.Layout.{pairIn, pairBytes, upTo, drawingIn}
 use Rattle.rulefile.specs.Reading.{verdictOn, partsBy, partsOf, readingBy, readingOf}
 use Rattle.rulefile.specs.declared.Contents.{Contents}
 use Rattle.rulefile.specs.declared.Reading.{Reading}
@@ -37,18 +39,18 @@ gap len far near h k = omega arith
 -- the parts of a file that its trailer's own distances cut off
 
 abbrev tableBy : List ℕ → Trailer → List ℕ
-tableBy f t = take (length f - t .pairs - (length f - t .table)) (drop (length f - t .table) f)
+tableBy f t = take (length f - t .pairsback - (length f - t .tableback)) (drop (length f - t .tableback) f)
 
 abbrev pairsBy : List ℕ → Trailer → List Pair
-pairsBy f t = padded 8 noPair (upTo (pairIn (take (length f - 12 - (length f - t .pairs)) (drop (length f - t .pairs) f))) (t .shape .pairs))
+pairsBy f t = padded 8 noPair (upTo (pairIn (take (length f - 12 - (length f - t .pairsback)) (drop (length f - t .pairsback) f))) (t .shape .pairs))
 
 -- the distances of a trailer that was found right
 record Cut (t : Trailer) (size : ℕ) : Type 0 where
-  pub trailer-in : 12 ≤ t .pairs
-  pub pairs-in : t .pairs ≤ t .table
-  pub table-in : t .table ≤ size
-  pub pair-bytes : t .pairs - 12 ≡ 16 * t .shape .pairs
-  pub cells : t .table - t .pairs ≡ t .shape .states * t .shape .events
+  pub trailer-in : 12 ≤ t .pairsback
+  pub pairs-in : t .pairsback ≤ t .tableback
+  pub table-in : t .tableback ≤ size
+  pub pair-bytes : t .pairsback - 12 ≡ 16 * t .shape .pairs
+  pub cells : t .tableback - t .pairsback ≡ t .shape .states * t .shape .events
 
 cut : (t : Trailer) (size : ℕ) → Placed t size → Cut t size
 cut t size h =
@@ -67,18 +69,18 @@ module _ (f : List ℕ) (t : Trailer) (h : Placed t (length f)) where
   table-cut : tableBy f t ≡ take (t .shape .states * t .shape .events) (drop (length f - tableBack (t .shape)) f)
   table-cut =
       let z = cut t (length f) h in
-      rw (gap (length f) (t .table) (t .pairs) (z .pairs-in) (z .table-in), z .cells, h .table-is)
+      rw (gap (length f) (t .tableback) (t .pairsback) (z .pairs-in) (z .table-in), z .cells, h .table-is)
 
   pairs-cut : pairsBy f t ≡ padded 8 noPair (upTo (pairIn (pairBytes (t .shape) f)) (t .shape .pairs))
   pairs-cut =
       let z = cut t (length f) h in
-      rw (gap (length f) (t .pairs) 12 (z .trailer-in) (omega arith), z .pair-bytes, h .pairs-is)
+      rw (gap (length f) (t .pairsback) 12 (z .trailer-in) (omega arith), z .pair-bytes, h .pairs-is)
 
-  pairs-long : length (take (length f - 12 - (length f - t .pairs)) (drop (length f - t .pairs) f)) ≡ 16 * t .shape .pairs
+  pairs-long : length (take (length f - 12 - (length f - t .pairsback)) (drop (length f - t .pairsback) f)) ≡ 16 * t .shape .pairs
   pairs-long =
       let z = cut t (length f) h in
-      part-length (length f - t .pairs) (length f - 12) f (omega arith)
-      ∙ gap (length f) (t .pairs) 12 (z .trailer-in) (omega arith)
+      part-length (length f - t .pairsback) (length f - 12) f (omega arith)
+      ∙ gap (length f) (t .pairsback) 12 (z .trailer-in) (omega arith)
       ∙ z .pair-bytes
 
 -- what a refused file comes to
@@ -125,25 +127,25 @@ module _ (f : List ℕ) {ok : Bool} (is : ok ≡ framed f) (right : not ok ≡ f
     distances = cut t (length f) (headed .placed)
 
     -- table, pairs and trailer stand one after the other
-    pub table-in-file : t .table ≤ length f
+    pub table-in-file : t .tableback ≤ length f
     table-in-file = distances .table-in
 
-    pub pairs-in-file : t .pairs ≤ length f
+    pub pairs-in-file : t .pairsback ≤ length f
     pairs-in-file = omega (arith, distances .pairs-in, distances .table-in)
 
-    pub table-before-pairs : length f - t .table ≤ length f - t .pairs
-    table-before-pairs = order (length f) (t .table) (t .pairs) (distances .pairs-in)
+    pub table-before-pairs : length f - t .tableback ≤ length f - t .pairsback
+    table-before-pairs = order (length f) (t .tableback) (t .pairsback) (distances .pairs-in)
       where
         order : (n a b : ℕ) → b ≤ a → n - a ≤ n - b
         order n a b l = omega arith
 
-    pub pairs-before-trailer : length f - t .pairs ≤ length f - 12
+    pub pairs-before-trailer : length f - t .pairsback ≤ length f - 12
     pairs-before-trailer = omega (arith, distances .trailer-in)
 
     pub pairs-few : t .shape .pairs ≤ 8
     pairs-few = headed .ranged .few-pairs
 
-    pub pairs-whole : length (take (length f - 12 - (length f - t .pairs)) (drop (length f - t .pairs) f)) ≡ 16 * t .shape .pairs
+    pub pairs-whole : length (take (length f - 12 - (length f - t .pairsback)) (drop (length f - t .pairsback) f)) ≡ 16 * t .shape .pairs
     pairs-whole = pairs-long f t (headed .placed)
 
     -- the checks of what was cut off are those of what is drawn
@@ -166,7 +168,7 @@ module _ (f : List ℕ) {ok : Bool} (is : ok ≡ framed f) (right : not ok ≡ f
           ∙ sym past-head
 
       pub body-right : w ≡ Sound
-          → record { verdict = w; shape = t .shape; start = length f - t .table; end = length f - t .pairs; pairs = ps } ≡ partsOf f
+          → record { verdict = w; shape = t .shape; start = length f - t .tableback; end = length f - t .pairsback; pairs = ps } ≡ partsOf f
       unfolding partsOf drawingIn
       body-right e =
           let h = headed .placed in

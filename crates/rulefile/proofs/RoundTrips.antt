@@ -14,10 +14,10 @@ use Rattle.rulefile.specs.Layout.{drawingIn, fileOf}
 use Rattle.rulefile.specs.Reading.{verdictOn, readingBy, readingOf}
 use Rattle.rulefile.specs.Writing.{verdictOf, Held, WritePromise}
 use Rattle.rulefile.specs.declared.Reading.{Reading}
-use Rattle.rulefile.specs.declared.Written.{Written}
-use Rattle.rulefile.specs.declared.Written.the-variants.{Done}
+use Rattle.rule.specs.declared.Written.{Written}
+use Rattle.rule.specs.declared.Written.the-variants.{Done}
 use Rattle.rulefile.proofs.PartsLaws.{SoundFile, sound-file}
-use Rattle.rulefile.proofs.AnswerLaws.{put-done, put-room}
+use Rattle.rule.proofs.PutLaws.{put-done, put-room}
 use Rattle.rulefile.proofs.DrawnLaws.{SoundDrawing, file-drawing, rule-drawing, drawn-rule, rule-held, rule-sound}
 use Rattle.rulefile.proofs.FileLaws.{file-read, file-back}
 

@@ -6,7 +6,7 @@ use Prim.Native.Nat.{ℕ, _+_, _-_, _*_, _≤_, _<_}
 use native.Mathlib.Omega.{arith}
 use borrow.Author.Tests.{le-leb, lt-leb}
 use lib.Dec.{leb}
-use lib.ListN.{length, take, drop, length-append}
+use lib.ListN.{length, take, length-append}
 use lib.Seq.{length-take-le}
 use borrow.Rule.Slice.PartMut.{putMid}
 use Rattle.octets.specs.Copies.{copied}
@@ -16,6 +16,7 @@ use Rattle.rule.specs.Drawing.{drawn}
 use Rattle.rule.specs.Range.{Classed, Ranged}
 use Rattle.rule.specs.Refusals.{firstOf, conditions}
 use Rattle.rule.proofs.BoolLaws.{le-says}
+use Rattle.rule.proofs.PutLaws.{keeps-refused, keeps-no-room, keeps-done}
 use Rattle.rule.proofs.RefusalLaws.{append-hit, append-more, first-sound}
 use Rattle.rule.specs.declared.Pair.{Pair}
 use Rattle.rule.specs.declared.Rule.{Rule}
@@ -26,29 +27,16 @@ use Rattle.rule.specs.declared.Verdict.{Verdict}
 use Rattle.rule.specs.declared.Verdict.the-variants.{Sound, Refused as Unsound}
 use Rattle.trailer.proofs.HeadLaws.{third-refused, third-sound}
 use Rattle.trailer.proofs.SoundLaws.{classed-says, ranged-says, passed, cells-in}
-use Rattle.rulefile.specs.Layout.{pairsOut, trailerOut, fileOf}
-use Rattle.rulefile.specs.Writing.{noted, measureConditions, verdictOf, PutPromise}
-use Rattle.rulefile.specs.declared.Written.{Written}
-use Rattle.rulefile.specs.declared.Written.the-variants.{Done, Refused}
+use Rattle.trailer.specs.Layout.{trailerOut}
+use Rattle.rulefile.specs.Layout.{pairsOut, fileOf}
+use Rattle.rule.specs.Putting.{PutPromise}
+use Rattle.rulefile.specs.Writing.{noted, measureConditions, verdictOf}
+use Rattle.rule.specs.declared.Written.{Written}
+use Rattle.rule.specs.declared.Written.the-variants.{Done, Refused}
 use Rattle.checks.specs.Checked.{checkedOf}
 use Rattle.checks.proofs.CheckLaws.{conditions-note}
 use Rattle.checks.proofs.HeldLaws.{in-range}
 use Rattle.rulefile.proofs.LayoutLaws.{length-pairsOut, length-trailerOut, pairsOut-take}
-
--- putting bytes into an output: refused as the verdict is, refused for room, or done
-
-module _ {v : Verdict} {bytes out : List ℕ} where
-  pub put-refused : {r : Refusal} → v ≡ Unsound r → PutPromise v bytes out (Refused r) out
-  put-refused e = record { answer = rw e; output = rw e }
-
-  module _ (e : v ≡ Sound) where
-    pub put-no-room : length out < length bytes → PutPromise v bytes out (Refused Room) out
-    put-no-room h = record { answer = rw (e, lt-leb (length bytes) (length out) h); output = rw (e, lt-leb (length bytes) (length out) h) }
-
-    pub put-done : {n : ℕ} {out′ : List ℕ} → n ≡ length bytes → n ≤ length out → out′ ≡ bytes ++ drop n out → PutPromise v bytes out (Done n) out′
-    put-done q h o =
-        let fits = le-leb (length bytes) (length out) (rw q at h) in
-        record { answer = rw (e, fits, q); output = rw (e, fits, ← q) o }
 
 -- 4 of a rule by value, after two conditions of which the first refusal is v
 
@@ -94,7 +82,7 @@ module _ (note table : List ℕ) (s : Shape) (ps : List Pair) where
   size-is = sym (length-append note rest ∙ length-rest)
 
   pub file-no-room : (out : List ℕ) → length out < size → PutPromise Sound (note ++ rest) out (Refused Room) out
-  file-no-room out h = put-no-room refl (rw size-is at h)
+  file-no-room out h = keeps-no-room refl (rw size-is at h)
 
   -- the note was copied to the front, and the rest was filled
   pub file-put : (out : List ℕ) {l last : List ℕ} → size ≤ length out → l ≡ copied note out → last ≡ rest
@@ -102,7 +90,7 @@ module _ (note table : List ℕ) (s : Shape) (ps : List Pair) where
   file-put out h is full =
       let k : length rest ≡ size - length note = omega (arith, length-rest) in
       let m : length note + (size - length note) ≡ size = omega arith in
-      put-done refl size-is h (rw (is ∙ copied-whole note out (omega arith), full) (part-more note rest out (length note) (size - length note) refl k ∙ rw m))
+      keeps-done refl size-is h (rw (is ∙ copied-whole note out (omega arith), full) (part-more note rest out (length note) (size - length note) refl k ∙ rw m))
 
 -- a rule by value
 
@@ -111,7 +99,7 @@ module _ (r : Rule) {v : Verdict} (head : v ≡ firstOf (measureConditions (r .s
   pub head-refused : (out : List ℕ) {x : Refusal} → v ≡ Unsound x → PutPromise (verdictOf r) (fileOf (drawn r)) out (Refused x) out
   unfolding verdictOf
   head-refused out {x} e =
-      put-refused (append-hit (measureConditions (r .shape) (r .length)) (conditions (drawn r)) x (sym head ∙ e))
+      keeps-refused (append-hit (measureConditions (r .shape) (r .length)) (conditions (drawn r)) x (sym head ∙ e))
 
   module _ (sound : v ≡ Sound) where
     measured : Measured (r .shape) (r .length)
@@ -151,11 +139,12 @@ module _ (r : Rule) {v : Verdict} (head : v ≡ firstOf (measureConditions (r .s
           ∙ sym (append-more (measureConditions (r .shape) (r .length)) (conditions (drawn r)) (sym head ∙ sound))
 
       pub body-refused : (out : List ℕ) {x : Refusal} → w ≡ Unsound x → PutPromise (verdictOf r) (fileOf (drawn r)) out (Refused x) out
-      body-refused out e = put-refused (sym told ∙ e)
+      body-refused out e = keeps-refused (sym told ∙ e)
 
       -- the file by its parts is that of the rule
       pub rule-put : {out : List ℕ} {a : Written} {out′ : List ℕ} → w ≡ Sound
-          → PutPromise Sound (take (r .length) (r .note) ++ (take (r .shape .states * r .shape .events) (r .table) ++ (pairsOut (r .pairs) (r .shape .pairs) ++ trailerOut (r .shape)))) out a out′
+          → PutPromise Sound (take (r .length) (r .note) ++ (take (r .shape .states * r .shape .events) (r .table)
+          ++ (pairsOut (r .pairs) (r .shape .pairs) ++ trailerOut (r .shape)))) out a out′
           → PutPromise (verdictOf r) (fileOf (drawn r)) out a out′
       unfolding fileOf drawn
       rule-put e p = rw (sym told ∙ e, pairsOut-take (r .pairs) (r .shape .pairs)) p

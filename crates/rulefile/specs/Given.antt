@@ -2,30 +2,32 @@
 -- Assumes nothing.
 use Prim.Native.Nat.{ℕ, _-_, _<_}
 use mathlib.Core.Path.{_≡_}
-use mathlib.Core.List.{List, [], _∷_, _++_}
+use mathlib.Core.List.{List, _∷_, _++_}
 use mathlib.Core.Logic.{_⊎_}
 use lib.ListN.{length, getD, drop}
 use Rattle.rule.specs.Drawing.{Drawing, initial, drawn}
-use Rattle.rule.specs.Range.{ruleLimits, mostPairs, Outside, OutOfRange}
+use Rattle.rule.specs.Range.{ruleLimits, mostPairs, longestNote, Outside, OutOfRange}
 use Rattle.rule.specs.Refusals.{conditionsOrder}
-use Rattle.rule.specs.Given.{Table, After, FirstCell, LowestPair, BadEntry, BadMember, TooMuch, Forbidden, StopsBy, BothEmpty}
+use Rattle.rule.specs.Putting.{Put, putOrder}
+use Rattle.rule.specs.Given.{Table, FirstCell, LowestPair, BadEntry, BadMember, TooMuch, Forbidden, StopsBy, BothEmpty}
 use Rattle.rule.specs.declared.Rule.{Rule}
 use Rattle.rule.specs.declared.StateNo.{StateNo}
 use Rattle.rule.specs.declared.EventNo.{EventNo}
 use Rattle.rule.specs.declared.Shape.{Shape}
 use Rattle.rule.specs.declared.Refusal.{Refusal}
-use Rattle.rule.specs.declared.Refusal.the-variants.{Frame, Class, Range, Distance, Entry, Member, Excess, Move, Stopping, Empty, Room}
-use Rattle.trailer.specs.Conditions.{tableBack, pairsBack, headOrder}
+use Rattle.rule.specs.declared.Refusal.the-variants.{Frame, Class, Range, Distance, Entry, Member, Excess, Move, Stopping, Empty}
+use Rattle.trailer.specs.Layout.{tableBack, pairsBack, trailerSize, longestFile, trailerIn}
+use Rattle.trailer.specs.Conditions.{headOrder}
 use Rattle.trailer.specs.declared.Trailer.{Trailer}
-use Rattle.rulefile.specs.Layout.{trailerIn, drawingIn, fileOf}
+use Rattle.rulefile.specs.Layout.{drawingIn, fileOf}
 
 -- byte i of a file's trailer
 abbrev pub trailerByte : List ℕ → ℕ → ℕ
-trailerByte f i = getD (drop (length f - 12) f) i 0
+trailerByte f i = getD (drop (length f - trailerSize) f) i 0
 
 -- 1: under 12 or over 3,212 bytes, or bytes 10-11 wrong
 pub data BadFrame (f : List ℕ) : Type 0 where
-  bad-size : Outside 12 3212 (length f) → BadFrame f
+  bad-size : Outside trailerSize longestFile (length f) → BadFrame f
   byte-10 : (trailerByte f 10 ≡ 72 → ⊥) → BadFrame f
   byte-11 : (trailerByte f 11 ≡ 82 → ⊥) → BadFrame f
 
@@ -42,11 +44,11 @@ pub data BadRange (s : Shape) : Type 0 where
 
 -- 4: a back distance is wrong, the file is shorter than the table's distance, or the note is over 1,024
 abbrev pub LongNote : ℕ → Type 0
-LongNote length = 1024 < length
+LongNote length = longestNote < length
 
 pub data BadDistance (t : Trailer) (size : ℕ) : Type 0 where
-  to-table : (t .table ≡ tableBack (t .shape) → ⊥) → BadDistance t size
-  to-pairs : (t .pairs ≡ pairsBack (t .shape) → ⊥) → BadDistance t size
+  to-table : (t .tableback ≡ tableBack (t .shape) → ⊥) → BadDistance t size
+  to-pairs : (t .pairsback ≡ pairsBack (t .shape) → ⊥) → BadDistance t size
   short : size < tableBack (t .shape) → BadDistance t size
   note : LongNote (size - tableBack (t .shape)) → BadDistance t size
 
@@ -73,13 +75,6 @@ readingOrder = 1 ∷ drawingOrder
 pub data Reading (f : List ℕ) : ℕ → Refusal → Type 0 where
   at-1 : BadFrame f → Reading f 1 Frame
   drawing : {n : ℕ} {x : Refusal} → DrawingRow (drawingIn f) (BadDistance (trailerIn f) (length f)) n x → Reading f n x
-
--- bytes of this size that are put into an output give 16 last: the output has too little room
-abbrev pub Put : Table → (size room : ℕ) → Table
-Put T size room = After T 16 Room (room < size)
-
-abbrev pub putOrder : List ℕ → List ℕ
-putOrder order = order ++ (16 ∷ [])
 
 -- writing a rule gives 2, 3, 4 for the note only, 5 to 10, then 16
 abbrev pub writingOrder : List ℕ

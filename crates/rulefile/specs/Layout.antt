@@ -4,25 +4,10 @@ use Prim.Native.Nat.{ℕ, zero, suc, _+_, _-_, _*_}
 use mathlib.Core.List.{List, [], _∷_, _++_}
 use lib.ListN.{length, getD, take, drop}
 use Rattle.octets.specs.Numbers.{valueOf, digits}
-use Rattle.rule.specs.Drawing.{Drawing, count, stateNo, noPair}
+use Rattle.rule.specs.Drawing.{Drawing, count, noPair}
 use Rattle.rule.specs.declared.Pair.{Pair}
 use Rattle.rule.specs.declared.Shape.{Shape}
-use Rattle.trailer.specs.Conditions.{pairsBack, tableBack}
-use Rattle.trailer.specs.declared.Trailer.{Trailer}
-
--- what the twelve bytes of a trailer say
-unfoldable pub trailerOf : List ℕ → Trailer
-trailerOf t =
-    record {
-      shape =
-          record { class = getD t 0 0; states = getD t 1 0; events = getD t 2 0; pairs = getD t 3 0; initial = stateNo (getD t 4 0); mode = getD t 5 0 };
-      table = valueOf (take 2 (drop 6 t));
-      pairs = valueOf (take 2 (drop 8 t));
-    }
-
--- the trailer of a file
-abbrev pub trailerIn : List ℕ → Trailer
-trailerIn f = trailerOf (drop (length f - 12) f)
+use Rattle.trailer.specs.Layout.{pairSize, pairsBack, tableBack, trailerIn, trailerOut}
 
 -- f 0, f 1, .., so many of them
 unfoldable pub upTo : {A : Type 0} → (ℕ → A) → ℕ → List A
@@ -31,11 +16,11 @@ upTo f (suc n) = upTo f n ++ (f n ∷ [])
 
 -- pair i of some bytes, R then P, eight bytes each
 abbrev pub pairIn : List ℕ → ℕ → Pair
-pairIn bytes i = record { r = valueOf (take 8 (drop (16 * i) bytes)); p = valueOf (take 8 (drop (16 * i + 8) bytes)) }
+pairIn bytes i = record { r = valueOf (take 8 (drop (pairSize * i) bytes)); p = valueOf (take 8 (drop (pairSize * i + 8) bytes)) }
 
 -- the bytes of a file that its shape says are the pairs
 abbrev pub pairBytes : Shape → List ℕ → List ℕ
-pairBytes s f = take (16 * s .pairs) (drop (length f - pairsBack s) f)
+pairBytes s f = take (pairSize * s .pairs) (drop (length f - pairsBack s) f)
 
 -- what is drawn in a file: the parts that its trailer's shape says it has
 unfoldable pub drawingIn : List ℕ → Drawing
@@ -60,12 +45,6 @@ pairOut p = digits 8 (p .r) ++ digits 8 (p .p)
 -- the first m pairs of a list in bytes
 abbrev pub pairsOut : List Pair → ℕ → List ℕ
 pairsOut ps m = flatUpTo (λ i. pairOut (getD ps i noPair)) m
-
--- the trailer that a shape has
-unfoldable pub trailerOut : Shape → List ℕ
-trailerOut s =
-    (s .class ∷ s .states ∷ s .events ∷ s .pairs ∷ s .initial .0 ∷ s .mode ∷ [])
-    ++ (digits 2 (tableBack s) ++ (digits 2 (pairsBack s) ++ (72 ∷ 82 ∷ [])))
 
 -- the file of a drawing
 unfoldable pub fileOf : Drawing → List ℕ

@@ -8,8 +8,9 @@ use Rattle.rule.specs.Refusals.{firstOf, conditions}
 use Rattle.rule.specs.declared.Rule.{Rule}
 use Rattle.rule.specs.declared.Verdict.{Verdict}
 use Rattle.rule.specs.declared.Verdict.the-variants.{Sound, Refused}
-use Rattle.trailer.specs.Conditions.{tableBack, pairsBack, frame, headConditions}
-use Rattle.rulefile.specs.Layout.{trailerIn, drawingIn}
+use Rattle.trailer.specs.Layout.{tableBack, pairsBack, trailerIn}
+use Rattle.trailer.specs.Conditions.{frame, headConditions}
+use Rattle.rulefile.specs.Layout.{drawingIn}
 use Rattle.rulefile.specs.declared.Contents.{Contents}
 use Rattle.rulefile.specs.declared.Reading.{Reading}
 

@@ -5,7 +5,8 @@ ghost use Prim.Native.Nat.{_*_, _≤_};
 ghost use lib.ListN.{length};
 ghost use Rattle.rule.specs.Drawing.{noPair, padded};
 ghost use Rattle.rule.specs.declared.Verdict.the-variants.{Refused};
-ghost use Rattle.rulefile.specs.Layout.{trailerOf, pairIn, upTo};
+ghost use Rattle.trailer.specs.Layout.{trailerOf};
+ghost use Rattle.rulefile.specs.Layout.{pairIn, upTo};
 ghost use Rattle.rulefile.specs.Reading.{partsBy};
 use crate::Contents;
 use rule::Pair;
@@ -20,8 +21,8 @@ pub(crate) fn trailer_of(bytes: &[u8]) -> Trailer
     requires { ⌜ length (now bytes) ≡ 12 ⌝ }
     ensures { λ r. ⌜ r ≡ trailerOf (now (bytes .entry)) ⌝ }
 {
-    let table = octets::number(&bytes[6..8]) as usize;
-    let pairs = octets::number(&bytes[8..10]) as usize;
+    let tableback = octets::number(&bytes[6..8]) as usize;
+    let pairsback = octets::number(&bytes[8..10]) as usize;
     Trailer {
         shape: Shape {
             class: bytes[0],
@@ -31,8 +32,8 @@ pub(crate) fn trailer_of(bytes: &[u8]) -> Trailer
             initial: StateNo(bytes[4]),
             mode: bytes[5],
         },
-        table,
-        pairs,
+        tableback,
+        pairsback,
     }
 }
 

@@ -26,12 +26,6 @@ pub struct Reading {
     pub rule: Rule,
 }
 
-// What writing comes to: so many bytes at the front of the output, or a refusal.
-pub enum Written {
-    Done(usize),
-    Refused(Refusal),
-}
-
 // Looks at a file: the refusals 1 to 10, and where its parts are. Nothing of it is copied but the pairs.
 pub fn parts(file: &[u8]) -> Contents
     ensures { λ r. ⌜ r ≡ partsOf (now (file .entry)) ⌝ }
@@ -40,16 +34,16 @@ pub fn parts(file: &[u8]) -> Contents
         return layout::refused(Refusal::Frame);
     }
     let len = file.len();
-    let trailer = layout::trailer_of(&file[len - 12..]);
-    let verdict = trailer::headed(trailer, len);
+    let trailer = layout::trailer_of(&file[len - trailer::SIZE..]);
+    let verdict = trailer::check_trailer(trailer, len);
     if let Verdict::Refused(refusal) = verdict {
         return layout::refused(refusal);
     }
     let shape = trailer.shape;
-    let start = len - trailer.table;
-    let end = len - trailer.pairs;
-    let pairs = layout::pairs_of(&file[end..len - 12], shape.pairs);
-    let verdict = checks::checked(shape, &file[start..end], pairs);
+    let start = len - trailer.tableback;
+    let end = len - trailer.pairsback;
+    let pairs = layout::pairs_of(&file[end..len - trailer::SIZE], shape.pairs);
+    let verdict = checks::check_body(shape, &file[start..end], pairs);
     if let Verdict::Refused(refusal) = verdict {
         return layout::refused(refusal);
     }

@@ -7,7 +7,6 @@ use mathlib.Core.Bool.{Bool, true, false, cond, not}
 use mathlib.Core.List.{List}
 use mathlib.Core.Logic.{inl, inr, ⊎-elim, _↔_, Iff·trans}
 use lib.Arith.{digits-lt}
-use lib.Dec.{leb, eqb}
 use lib.ListN.{length}
 use borrow.Author.Tests.{not-true, not-false}
 use Rattle.rule.specs.Reach.{placeOf}
@@ -15,7 +14,8 @@ use Rattle.rule.specs.Range.{ruleLimits, inRange, InRange}
 use Rattle.rule.proofs.BoolLaws.{Says, and-says, eq-says, le-says, in-words, Fails, fails-say, le-fails, eq-fails, and-fails}
 use Rattle.rule.proofs.RangeLaws.{range-says, range-fails}
 use Rattle.sheet.specs.Given.{BadSheet, short, unmarked, out-of-range, wrong-distance, wrong-length, GoodSheet}
-use Rattle.sheet.specs.Opening.{back, headIn, wholeSize, opens, openedOf}
+use Rattle.sheet.specs.Layout.{back, headIn, wholeSize}
+use Rattle.sheet.specs.Opening.{opens, openedOf}
 use Rattle.sheet.specs.declared.Head.{Head}
 use Rattle.sheet.specs.declared.Opened.the-variants.{Sheet, Refused}
 

@@ -1,2 +1,3 @@
+pub mod Layout
 pub mod Opening
 pub mod Given

@@ -1,35 +1,22 @@
--- What a sheet says of itself, and when it is refused.
+-- When a sheet opens, and what with.
 -- Assumes nothing.
-use Prim.Native.Nat.{ℕ, _+_, _-_, _*_}
+use Prim.Native.Nat.{ℕ, _+_, _*_}
 use mathlib.Core.Bool.{Bool, cond, _&&_}
 use mathlib.Core.List.{List}
-use lib.ListN.{length, getD}
+use lib.ListN.{length}
 use lib.Dec.{leb, eqb}
-use Rattle.rule.specs.Drawing.{stateNo}
 use Rattle.rule.specs.Refusals.{tell, toldOf}
 use Rattle.rule.specs.declared.Told.{Told}
 use Rattle.rule.specs.declared.Refusal.the-variants.{Sheet as NoSheet}
 use Rattle.rule.specs.Range.{ruleLimits, inRange}
-use Rattle.sheet.specs.declared.Head.{Head}
+use Rattle.sheet.specs.Layout.{endSize, mark, back, headIn, wholeSize}
 use Rattle.sheet.specs.declared.Opened.{Opened}
 use Rattle.sheet.specs.declared.Opened.the-variants.{Sheet, Refused}
-
--- the byte k places before the end
-abbrev pub back : List ℕ → ℕ → ℕ
-back l k = getD l (length l - k) 0
-
--- N, K and the initial state, as the last six bytes have them
-abbrev pub headIn : List ℕ → Head
-headIn l = record { states = back l 6; events = back l 5; initial = stateNo (back l 4) }
-
--- N*K + 6
-abbrev pub wholeSize : List ℕ → ℕ
-wholeSize l = back l 6 * back l 5 + 6
 
 -- not 11: 6 bytes at least, the mark 77, N, K and the initial state in range, distance and length both N*K + 6
 unfoldable pub opens : List ℕ → Bool
 opens l =
-    leb 6 (length l) && (eqb (back l 3) 77 && (inRange ruleLimits (back l 6) (back l 5) (back l 4)
+    leb endSize (length l) && (eqb (back l 3) mark && (inRange ruleLimits (back l 6) (back l 5) (back l 4)
     && (eqb (back l 2 + 256 * back l 1) (wholeSize l) && eqb (length l) (wholeSize l))))
 
 unfoldable pub openedOf : List ℕ → Opened

@@ -7,6 +7,11 @@ use rule::Limits;
 use rule::Rule;
 use rule::StateNo;
 
+// The bytes after the cells, and the mark among them.
+pub const END: usize = 6;
+
+pub const MARK: u8 = 77;
+
 // What an opened sheet says of itself: N, K and the initial state.
 pub struct Head {
     pub states: u8,
@@ -24,7 +29,7 @@ pub enum Opened {
 fn size(states: u8, events: u8) -> usize
     ensures { λ r. ⌜ r ≡ states * events + 6 ⌝ }
 {
-    states as usize * events as usize + 6
+    states as usize * events as usize + END
 }
 
 // The number of two bytes, the lower first.
@@ -39,10 +44,10 @@ pub fn open(sheet: &[u8]) -> Opened
     ensures { λ r. ⌜ r ≡ openedOf (now (sheet .entry)) ⌝ }
 {
     let len = sheet.len();
-    if len < 6 {
+    if len < END {
         return Opened::Refused;
     }
-    if sheet[len - 3] != 77 {
+    if sheet[len - 3] != MARK {
         return Opened::Refused;
     }
     let states = sheet[len - 6];

@@ -1,7 +1,7 @@
 // Prints the monitor of the rule file on standard input (document 01, "The printed monitor").
 use libc::STDIN_FILENO;
 use libc::STDOUT_FILENO;
-use rulefile::Written;
+use rule::Written;
 
 // Reads once, and answers whether anything came.
 fn pass_some() -> bool {

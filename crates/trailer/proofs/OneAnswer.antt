@@ -6,8 +6,8 @@ use Rattle.trailer.proofs
 pub framed-one-answer : OneAnswer proofs.framed.ended proofs.framed.Reads.Learnt
 framed-one-answer κs a x y = (x .told ∙ sym (y .told), refl)
 
-pub shaped-one-answer : OneAnswer proofs.shaped.ended proofs.shaped.Reads.Learnt
-shaped-one-answer κs a x y = (x .told ∙ sym (y .told), refl)
+pub check-shape-one-answer : OneAnswer proofs.check_shape.ended proofs.check_shape.Reads.Learnt
+check-shape-one-answer κs a x y = (x .told ∙ sym (y .told), refl)
 
-pub headed-one-answer : OneAnswer proofs.headed.ended proofs.headed.Reads.Learnt
-headed-one-answer κs a x y = (x .told ∙ sym (y .told), refl)
+pub check-trailer-one-answer : OneAnswer proofs.check_trailer.ended proofs.check_trailer.Reads.Learnt
+check-trailer-one-answer κs a x y = (x .told ∙ sym (y .told), refl)

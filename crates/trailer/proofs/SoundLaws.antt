@@ -17,7 +17,8 @@ use Rattle.rule.specs.declared.Shape.{Shape}
 use Rattle.rule.specs.declared.Refusal.{Refusal}
 use Rattle.rule.specs.declared.Refusal.the-variants.{Class, Range, Distance}
 use Rattle.rule.specs.declared.Verdict.the-variants.{Sound}
-use Rattle.trailer.specs.Conditions.{framed, classed, ranged, placed, pairsBack, tableBack, headConditions}
+use Rattle.trailer.specs.Layout.{pairsBack, tableBack}
+use Rattle.trailer.specs.Conditions.{framed, classed, ranged, placed, headConditions}
 use Rattle.trailer.specs.declared.Trailer.{Trailer}
 
 -- a condition that is refused where its test fails
@@ -59,8 +60,8 @@ ranged-says s =
 
 -- 4: the distances are right, the file is as long as they say, and the note is not over 1,024
 pub record Placed (t : Trailer) (size : ℕ) : Type 0 where
-  pub pairs-is : t .pairs ≡ pairsBack (t .shape)
-  pub table-is : t .table ≡ tableBack (t .shape)
+  pub pairs-is : t .pairsback ≡ pairsBack (t .shape)
+  pub table-is : t .tableback ≡ tableBack (t .shape)
   pub within : tableBack (t .shape) ≤ size
   pub note-in : size - tableBack (t .shape) ≤ 1024
 

@@ -1,21 +1,22 @@
 -- The conditions 1 to 4 in order: the frame of a rule file, and what its trailer says.
 -- Assumes nothing.
-use Prim.Native.Nat.{ℕ, _+_, _-_, _*_}
+use Prim.Native.Nat.{ℕ, _-_}
 use mathlib.Core.Bool.{Bool, not, _&&_, _||_}
 use mathlib.Core.List.{List, [], _∷_}
 use lib.ListN.{length, getD}
 use lib.Dec.{leb, eqb}
-use Rattle.rule.specs.Range.{ruleLimits, mostPairs, between, inRange}
+use Rattle.rule.specs.Range.{ruleLimits, mostPairs, longestNote, between, inRange}
 use Rattle.rule.specs.Refusals.{refuseIf}
 use Rattle.rule.specs.declared.Shape.{Shape}
 use Rattle.rule.specs.declared.Refusal.the-variants.{Frame, Class, Range, Distance}
 use Rattle.rule.specs.declared.Verdict.{Verdict}
+use Rattle.trailer.specs.Layout.{trailerSize, longestFile, pairsBack, tableBack}
 use Rattle.trailer.specs.declared.Trailer.{Trailer}
 
 -- 1: under 12 or over 3,212 bytes, or bytes 10-11 of the trailer wrong
 unfoldable pub framed : List ℕ → Bool
 framed f =
-    leb 12 (length f) && (leb (length f) 3212 && (eqb (getD f (length f - 2) 0) 72 && eqb (getD f (length f - 1) 0) 82))
+    leb trailerSize (length f) && (leb (length f) longestFile && (eqb (getD f (length f - 2) 0) 72 && eqb (getD f (length f - 1) 0) 82))
 
 abbrev pub frame : List ℕ → Verdict
 frame f = refuseIf (not (framed f)) Frame
@@ -36,18 +37,11 @@ ranged s =
 abbrev pub range : Shape → Verdict
 range s = refuseIf (not (ranged s)) Range
 
--- the distances from the file's end back to the pairs and back to the table
-abbrev pub pairsBack : Shape → ℕ
-pairsBack s = 12 + 16 * s .pairs
-
-abbrev pub tableBack : Shape → ℕ
-tableBack s = 12 + 16 * s .pairs + s .states * s .events
-
 -- 4: a back distance is wrong, the file is shorter than the table's distance, or the note is over 1,024
 unfoldable pub placed : Trailer → ℕ → Bool
 placed t size =
-    eqb (t .pairs) (pairsBack (t .shape)) && (eqb (t .table) (tableBack (t .shape))
-    && (leb (tableBack (t .shape)) size && leb (size - tableBack (t .shape)) 1024))
+    eqb (t .pairsback) (pairsBack (t .shape)) && (eqb (t .tableback) (tableBack (t .shape))
+    && (leb (tableBack (t .shape)) size && leb (size - tableBack (t .shape)) longestNote))
 
 abbrev pub distance : Trailer → ℕ → Verdict
 distance t size = refuseIf (not (placed t size)) Distance

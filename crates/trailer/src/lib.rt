@@ -8,11 +8,18 @@ use rule::Rule;
 use rule::Shape;
 use rule::Verdict;
 
-// What the last twelve bytes of a file say.
+// The bytes of the trailer, of a pair, and of the longest file.
+pub const SIZE: usize = 12;
+
+pub const PAIR: usize = 16;
+
+pub const LONGEST: usize = 3212;
+
+// What the last twelve bytes of a file say: its shape, and the distances from its end back to the table and to the pairs.
 pub struct Trailer {
     pub shape: Shape,
-    pub table: usize,
-    pub pairs: usize,
+    pub tableback: usize,
+    pub pairsback: usize,
 }
 
 // Whether a file has a length that one can have, and ends with the two marks.
@@ -20,10 +27,10 @@ pub fn framed(file: &[u8]) -> bool
     ensures { λ r. ⌜ r ≡ Rattle.trailer.specs.Conditions.framed (now (file .entry)) ⌝ }
 {
     let len = file.len();
-    if len < 12 {
+    if len < SIZE {
         return false;
     }
-    if 3212 < len {
+    if LONGEST < len {
         return false;
     }
     if file[len - 2] != 72 {
@@ -47,7 +54,7 @@ fn ranged(shape: Shape) -> bool
 }
 
 // The refusals 2 and 3.
-pub fn shaped(shape: Shape) -> Verdict
+pub fn check_shape(shape: Shape) -> Verdict
     ensures { λ r. ⌜ r ≡ firstOf (shapeConditions shape) ⌝ }
 {
     if !((1 <= shape.class) & (shape.class <= 4)) {
@@ -64,26 +71,26 @@ fn placed(trailer: Trailer, len: usize) -> bool
     ensures { λ r. ⌜ r ≡ Rattle.trailer.specs.Conditions.placed trailer len ⌝ }
 {
     let shape = trailer.shape;
-    let pairs = 12 + 16 * (shape.pairs as usize);
+    let pairs = SIZE + PAIR * (shape.pairs as usize);
     let table = pairs + (shape.states as usize) * (shape.events as usize);
-    if trailer.pairs != pairs {
+    if trailer.pairsback != pairs {
         return false;
     }
-    if trailer.table != table {
+    if trailer.tableback != table {
         return false;
     }
     if len < table {
         return false;
     }
-    len - table <= 1024
+    len - table <= Rule::NOTE
 }
 
 // The refusals 2 to 4 of a file of so many bytes.
-pub fn headed(trailer: Trailer, len: usize) -> Verdict
+pub fn check_trailer(trailer: Trailer, len: usize) -> Verdict
     ensures { λ r. ⌜ r ≡ firstOf (headConditions trailer len) ⌝ }
 {
     let shape = trailer.shape;
-    let verdict = shaped(shape);
+    let verdict = check_shape(shape);
     let Verdict::Sound = verdict else {
         return verdict;
     };

@@ -5,13 +5,14 @@ ghost use lib.ListN.{length};
 use crate::runs;
 use crate::said;
 use crate::script::part;
+use crate::script::wide;
 use check::same;
 use rule::Pair;
 use rule::Rule;
 use rule::Shape;
 use rule::StateNo;
 use rule::Verdict;
-use rulefile::Written;
+use rule::Written;
 
 // Reads a rule file, and where it is sound writes its rule again. A file that is the same is not printed.
 fn read(file: &[u8]) {
@@ -24,7 +25,7 @@ fn read(file: &[u8]) {
     let mut out = [171u8; 3300];
     said::written(writing::write(reading.rule, &mut out));
     if same(part(&out, 0, file.len()), file) {
-        said::say(said::SAME);
+        said::say(b" same");
         said::bytes(part(&out, file.len(), 3300));
     } else {
         said::bytes(&out);
@@ -85,13 +86,17 @@ fn write(bytes: &[u8], out: &mut [u8]) -> Written {
 
 // The calls that write to an output.
 fn put(command: u8, bytes: &[u8], out: &mut [u8]) -> bool {
-    match command {
-        b'w' => said::written(write(bytes, out)),
-        b'm' => said::written(making::make(bytes, out)),
-        _ => return false,
+    if command == b'w' {
+        let answer = write(bytes, out);
+        said::put(answer, out);
+        return true;
     }
-    said::bytes(out);
-    true
+    if command == b'm' {
+        let answer = making::make(bytes, out);
+        said::put(answer, out);
+        return true;
+    }
+    false
 }
 
 // A command by its letter. Answers whether there is one with so many numbers.
@@ -102,7 +107,7 @@ pub(crate) fn call(command: u8, numbers: &[u8], bytes: &[u8]) -> bool {
     if numbers.len() == 1 {
         let mut whole = [171u8; 255];
         let out: &mut [u8] = &mut whole;
-        let room = numbers[0] as usize;
+        let room = wide(numbers[0]);
         return put(command, bytes, &mut out[0..room]);
     }
     if numbers.len() != 0 {

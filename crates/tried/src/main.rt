@@ -38,7 +38,7 @@ fn case(line: &[u8], lines: &[u8]) -> bool {
     let end = find(line, b'@', colon + 3);
     io::write_all(1, &line[0..colon + 1]);
     let clear = obey(line[colon + 2], &line[colon + 3..end], lines, &line[end..]);
-    say(said::END);
+    say(b"\n");
     clear
 }
 

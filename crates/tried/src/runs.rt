@@ -1,7 +1,6 @@
 // The calls on a sheet: a fresh start, and events.
-ghost use Prim.Native.Nat.{_≤_};
-ghost use lib.ListN.{length};
 use crate::said;
+use crate::script::wide;
 use effects::Answer;
 use effects::Run;
 use rule::EventNo;
@@ -12,7 +11,7 @@ pub(crate) fn start(sheet: &[u8]) {
     let start = monitor::fresh(sheet);
     let verdict = start.verdict;
     match verdict {
-        Verdict::Sound => said::say(said::SOUND),
+        Verdict::Sound => said::say(b" sound"),
         Verdict::Refused(refusal) => said::refused(refusal),
     }
     said::run(start.run);
@@ -26,9 +25,9 @@ fn offer(sheet: &[u8], run: Run, code: u8, memory: &mut [u8], output: &mut [u8])
             run: after,
             released,
         } => {
-            said::say(operation.mark() as usize);
+            said::operation(operation);
             said::run(after);
-            said::say(said::RELEASED);
+            said::say(b" released");
             said::number(released as u64);
             after
         }
@@ -39,23 +38,16 @@ fn offer(sheet: &[u8], run: Run, code: u8, memory: &mut [u8], output: &mut [u8])
     }
 }
 
-// Events one after another from a state with some held, each with the output after it, and then the memory.
-fn follow(sheet: &[u8], numbers: &[u8], memory: &mut [u8], output: &mut [u8])
-    requires { ⌜ 4 ≤ length (now numbers) ⌝ }
-{
-    let mut run = Run {
-        state: StateNo(numbers[2]),
-        held: numbers[3] as usize,
-    };
-    let mut i = 4;
-    while i < numbers.len() {
-        run = offer(sheet, run, numbers[i], memory, output);
-        said::say(said::OUTPUT);
-        said::bytes(output);
+// Events one after another, each with the output after it, and then the memory.
+fn follow(sheet: &[u8], start: Run, codes: &[u8], memory: &mut [u8], output: &mut [u8]) {
+    let mut run = start;
+    let mut i = 0;
+    while i < codes.len() {
+        run = offer(sheet, run, codes[i], memory, output);
+        said::output(output);
         i += 1;
     }
-    said::say(said::MEMORY);
-    said::bytes(memory);
+    said::memory(memory);
 }
 
 // Events with buffers of 171s: the lengths of the memory and of the output, the state, how many are held, the codes.
@@ -67,8 +59,18 @@ pub(crate) fn event(sheet: &[u8], numbers: &[u8]) -> bool {
     let mut output = [171u8; 255];
     let held: &mut [u8] = &mut memory;
     let released: &mut [u8] = &mut output;
-    let most = numbers[0] as usize;
-    let room = numbers[1] as usize;
-    follow(sheet, numbers, &mut held[0..most], &mut released[0..room]);
+    let most = wide(numbers[0]);
+    let room = wide(numbers[1]);
+    let run = Run {
+        state: StateNo(numbers[2]),
+        held: wide(numbers[3]),
+    };
+    follow(
+        sheet,
+        run,
+        &numbers[4..],
+        &mut held[0..most],
+        &mut released[0..room],
+    );
     true
 }

@@ -1,56 +1,32 @@
 // What is printed.
 ghost use Prim.Native.Nat.{_≤_};
 ghost use lib.ListN.{length};
-use crate::script::find;
+use crate::script::wide;
 use effects::Run;
+use rule::Operation;
 use rule::Refusal;
-use rulefile::Written;
+use rule::Written;
 
-// The words, ten bytes for each: a space, the word and spaces. First stand the operations, by their numbers in a sheet.
-const WORDS: [u8; 160] =
-    *b" halt      store     dump      refused   sound     written   same      none      171x      state     held      released  memory    output             \n         ";
+pub(crate) fn say(word: &[u8]) {
+    io::write_all(1, word);
+}
 
-pub(crate) const REFUSED: usize = 3;
-
-pub(crate) const SOUND: usize = 4;
-
-pub(crate) const WRITTEN: usize = 5;
-
-pub(crate) const SAME: usize = 6;
-
-pub(crate) const NONE: usize = 7;
-
-pub(crate) const UNTOUCHED: usize = 8;
-
-pub(crate) const STATE: usize = 9;
-
-pub(crate) const HELD: usize = 10;
-
-pub(crate) const RELEASED: usize = 11;
-
-pub(crate) const MEMORY: usize = 12;
-
-pub(crate) const OUTPUT: usize = 13;
-
-pub(crate) const SPACE: usize = 14;
-
-pub(crate) const END: usize = 15;
-
-pub(crate) fn say(word: usize) {
-    if word < 16 {
-        let end = find(&WORDS, b' ', 10 * word + 1);
-        io::write_all(1, &WORDS[10 * word..end]);
+pub(crate) fn operation(operation: Operation) {
+    match operation {
+        Operation::Halt => say(b" halt"),
+        Operation::Store => say(b" store"),
+        Operation::Dump => say(b" dump"),
     }
 }
 
 pub(crate) fn unclear(line: u64) {
-    io::write_all(1, b"line ");
+    say(b"line ");
     io::print_decimal(1, line);
-    io::write_all(1, b": not a command\n");
+    say(b": not a command\n");
 }
 
 pub(crate) fn number(n: u64) {
-    say(SPACE);
+    say(b" ");
     io::print_decimal(1, n);
 }
 
@@ -65,27 +41,31 @@ fn touched(list: &[u8]) -> usize
     end
 }
 
+fn numbers(list: &[u8]) {
+    let mut i = 0;
+    while i < list.len() {
+        number(wide(list[i]) as u64);
+        i += 1;
+    }
+}
+
 // Some bytes. Those that are 171 at the end are counted.
 pub(crate) fn bytes(list: &[u8]) {
     let end = touched(list);
-    let mut i = 0;
-    while i < end {
-        number(list[i] as u64);
-        i += 1;
-    }
+    numbers(&list[0..end]);
     if end < list.len() {
-        say(UNTOUCHED);
+        say(b" 171x");
         io::print_decimal(1, (list.len() - end) as u64);
     }
     if list.len() == 0 {
-        say(NONE);
+        say(b" none");
     }
 }
 
 // A refusal, by its number and places.
 pub(crate) fn refused(refusal: Refusal) {
     let told = refusal.told();
-    say(REFUSED);
+    say(b" refused");
     number(told.number as u64);
     number(told.a as u64);
     number(told.b as u64);
@@ -95,7 +75,7 @@ pub(crate) fn refused(refusal: Refusal) {
 pub(crate) fn written(answer: Written) {
     match answer {
         Written::Done(n) => {
-            say(WRITTEN);
+            say(b" written");
             number(n as u64);
         }
         Written::Refused(refusal) => refused(refusal),
@@ -104,8 +84,24 @@ pub(crate) fn written(answer: Written) {
 
 pub(crate) fn run(run: Run) {
     let state = run.state;
-    say(STATE);
+    say(b" state");
     number(state.0 as u64);
-    say(HELD);
+    say(b" held");
     number(run.held as u64);
+}
+
+// What came of a call that writes to an output, and the output.
+pub(crate) fn put(answer: Written, out: &[u8]) {
+    written(answer);
+    bytes(out);
+}
+
+pub(crate) fn output(list: &[u8]) {
+    say(b" output");
+    bytes(list);
+}
+
+pub(crate) fn memory(list: &[u8]) {
+    say(b" memory");
+    bytes(list);
 }

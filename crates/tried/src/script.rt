@@ -11,6 +11,12 @@ struct Numeral {
     end: usize,
 }
 
+pub(crate) fn wide(byte: u8) -> usize
+    ensures { λ r. ⌜ r ≤ 255 ⌝ }
+{
+    byte as usize
+}
+
 // The bytes from one place to another, or all where these do not lie within them.
 pub(crate) fn part(bytes: &[u8], from: usize, to: usize) -> &[u8] {
     if from <= to {

@@ -5,25 +5,27 @@ ghost use Prim.Native.Nat.{_+_, _*_, _≤_};
 ghost use lib.ListN.{length};
 ghost use Rattle.rule.specs.Refusals.{firstOf};
 ghost use Rattle.rule.specs.declared.Verdict.the-variants.{Sound};
-ghost use Rattle.rulefile.specs.Layout.{pairOut, pairsOut, trailerOut};
-ghost use Rattle.rulefile.specs.Writing.{measureConditions, PutPromise, WritePromise};
+ghost use Rattle.trailer.specs.Layout.{trailerOut};
+ghost use Rattle.rulefile.specs.Layout.{pairOut, pairsOut};
+ghost use Rattle.rule.specs.Putting.{PutPromise};
+ghost use Rattle.rulefile.specs.Writing.{measureConditions, WritePromise};
 use rule::Pair;
 use rule::Refusal;
 use rule::Rule;
 use rule::Shape;
 use rule::Verdict;
-use rulefile::Written;
-use trailer::shaped;
+use rule::Written;
+use trailer::check_shape;
 
 // The refusals 2 to 4 of a rule by value.
-fn measured(shape: Shape, length: usize) -> Verdict
+fn check_head(shape: Shape, length: usize) -> Verdict
     ensures { λ r. ⌜ r ≡ firstOf (measureConditions shape length) ⌝ }
 {
-    let verdict = shaped(shape);
+    let verdict = check_shape(shape);
     let Verdict::Sound = verdict else {
         return verdict;
     };
-    if 1024 < length {
+    if Rule::NOTE < length {
         return Verdict::Refused(Refusal::Distance);
     }
     Verdict::Sound
@@ -58,7 +60,7 @@ fn put_trailer(out: &mut [u8], shape: Shape)
     requires { ⌜ length (now out) ≡ 12 ⌝ }
     ensures { λ _. ⌜ now (out .exit) ≡ trailerOut shape ⌝ }
 {
-    let pairs = 12 + 16 * (shape.pairs as usize);
+    let pairs = trailer::SIZE + trailer::PAIR * (shape.pairs as usize);
     let table = pairs + (shape.states as usize) * (shape.events as usize);
     let initial = shape.initial;
     let bytes = [
@@ -83,7 +85,7 @@ fn put_end(out: &mut [u8], shape: Shape, pairs: [Pair; 8])
     requires { ⌜ (shape .pairs ≤ 8) × (length (now out) ≡ 16 * shape .pairs + 12) ⌝ }
     ensures { λ _. ⌜ now (out .exit) ≡ pairsOut pairs (shape .pairs) ++ trailerOut shape ⌝ }
 {
-    let end = 16 * (shape.pairs as usize);
+    let end = trailer::PAIR * (shape.pairs as usize);
     put_pairs(&mut out[0..end], pairs, shape.pairs);
     put_trailer(&mut out[end..], shape);
 }
@@ -104,7 +106,7 @@ fn put_file(out: &mut [u8], note: &[u8], table: &[u8], shape: Shape, pairs: [Pai
     ensures { λ r. ⌜ PutPromise Sound (now (note .entry) ++ (now (table .entry) ++ (pairsOut pairs (shape .pairs) ++ trailerOut shape))) (now (out .entry)) r (now (out .exit)) ⌝ }
 {
     let start = note.len();
-    let size = start + table.len() + 16 * (shape.pairs as usize) + 12;
+    let size = start + table.len() + trailer::PAIR * (shape.pairs as usize) + trailer::SIZE;
     if out.len() < size {
         return Written::Refused(Refusal::Room);
     }
@@ -119,14 +121,14 @@ pub fn write(rule: Rule, out: &mut [u8]) -> Written
 {
     let shape = rule.shape;
     let length = rule.length;
-    let verdict = measured(shape, length);
+    let verdict = check_head(shape, length);
     if let Verdict::Refused(refusal) = verdict {
         return Written::Refused(refusal);
     }
     let cells = (shape.states as usize) * (shape.events as usize);
     let table = rule.table;
     let pairs = rule.pairs;
-    let verdict = checks::checked(shape, &table[..cells], pairs);
+    let verdict = checks::check_body(shape, &table[..cells], pairs);
     if let Verdict::Refused(refusal) = verdict {
         return Written::Refused(refusal);
     }

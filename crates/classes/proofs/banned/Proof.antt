@@ -18,27 +18,9 @@ Inv-loop shape s pairs count set₀ i₀ set i = (i ≤ count) × (count ≡ min
 abbrev μ-loop : tie.MeasureT-loop
 μ-loop shape s pairs count set₀ i₀ set i = count - i
 
-cast-count : tie.Need-cast-count Inv-loop μ-loop
-cast-count c = search needs
-
 loop-holds : tie.Need-loop-holds Inv-loop μ-loop
 loop-holds c =
     (omega arith, ⊎-elim (λ w. omega arith) (λ w. omega arith) (c .if1 .came), some-none _ (c .before .before .args .t2) _)
-
-mul-banned-by : tie.Need-mul-banned-by Inv-loop μ-loop
-mul-banned-by c = omega arith
-
-array-copy-out-banned-by : tie.Need-array-copy-out-banned-by Inv-loop μ-loop
-array-copy-out-banned-by c = omega arith
-
-banned-by-requires : tie.Need-banned-by-requires Inv-loop μ-loop
-banned-by-requires c κs = search needs
-
-add-i : tie.Need-add-i Inv-loop μ-loop
-add-i c = omega arith
-
-loop-less : tie.Need-loop-less Inv-loop μ-loop
-loop-less c = omega arith
 
 loop-again : tie.Need-loop-again Inv-loop μ-loop
 loop-again c =
@@ -59,12 +41,12 @@ banned-spec =
     (tie.spec
     Inv-loop
     μ-loop
-    cast-count
+    (λ c. search needs)
     loop-holds
-    mul-banned-by
-    array-copy-out-banned-by
-    banned-by-requires
-    add-i
-    loop-less
+    (λ c. omega arith)
+    (λ c. omega arith)
+    (λ c κs. search needs)
+    (λ c. omega arith)
+    (λ c. omega arith)
     loop-again
     returns)

@@ -5,23 +5,11 @@ use Rattle.classes.proofs.BanLaws.{bans-1, bans-2, bans-3, bans-none}
 use Rattle.classes.proofs.banned_by.Statement.{statement}
 use Rattle.classes.proofs.banned_by.Tie as tie
 
-entering-requires : tie.Need-entering-requires
-entering-requires c κs = search needs
-
 returns : tie.Need-returns
 returns c = search (needs, bans-1)
 
-leaving-requires : tie.Need-leaving-requires
-leaving-requires c κs = search needs
-
 returns-2 : tie.Need-returns-2
 returns-2 c = search (needs, bans-2)
-
-entering-requires-2 : tie.Need-entering-requires-2
-entering-requires-2 c κs = search needs
-
-leaving-requires-2 : tie.Need-leaving-requires-2
-leaving-requires-2 c κs = search needs
 
 returns-3 : tie.Need-returns-3
 returns-3 c = search (needs, bans-3)
@@ -33,11 +21,11 @@ pub banned-by-spec : {M : Type 1} → statement M
 banned-by-spec =
     tie.close
     (tie.spec
-    entering-requires
+    (λ c κs. search needs)
     returns
-    leaving-requires
+    (λ c κs. search needs)
     returns-2
-    entering-requires-2
-    leaving-requires-2
+    (λ c κs. search needs)
+    (λ c κs. search needs)
     returns-3
     returns-4)

@@ -5,9 +5,6 @@ use Rattle.classes.proofs.BanLaws.{into-inside, into-outside}
 use Rattle.classes.proofs.entering.Statement.{statement}
 use Rattle.classes.proofs.entering.Tie as tie
 
-contains-requires : tie.Need-contains-requires
-contains-requires c κs = search needs
-
 returns : tie.Need-returns
 returns c = search (needs, into-inside)
 
@@ -15,4 +12,4 @@ returns-2 : tie.Need-returns-2
 returns-2 c = search (needs, into-outside)
 
 pub entering-spec : {M : Type 1} → statement M
-entering-spec = tie.close (tie.spec contains-requires returns returns-2)
+entering-spec = tie.close (tie.spec (λ c κs. search needs) returns returns-2)

@@ -5,9 +5,6 @@ use Rattle.classes.proofs.BanLaws.{out-inside, out-outside}
 use Rattle.classes.proofs.leaving.Statement.{statement}
 use Rattle.classes.proofs.leaving.Tie as tie
 
-contains-requires : tie.Need-contains-requires
-contains-requires c κs = search needs
-
 returns : tie.Need-returns
 returns c = search (needs, out-inside)
 
@@ -15,4 +12,4 @@ returns-2 : tie.Need-returns-2
 returns-2 c = search (needs, out-outside)
 
 pub leaving-spec : {M : Type 1} → statement M
-leaving-spec = tie.close (tie.spec contains-requires returns returns-2)
+leaving-spec = tie.close (tie.spec (λ c κs. search needs) returns returns-2)

@@ -5,17 +5,8 @@ use borrow.Author.Needs.{needs}
 use Rattle.making.proofs.make.Statement.{statement}
 use Rattle.making.proofs.make.Tie as tie
 
-parts-requires : tie.Need-parts-requires
-parts-requires c κs = search needs
-
-enum-known-verdict : tie.Need-enum-known-verdict
-enum-known-verdict c = search needs
-
 returns : tie.Need-returns
 returns c = search (needs, made-refused)
-
-enum-told : tie.Need-enum-told
-enum-told c = search needs
 
 sub-put : tie.Need-sub-put
 sub-put c = search (needs, table-order)
@@ -29,9 +20,6 @@ part-put-end c = search (needs, table-inside)
 put-requires : tie.Need-put-requires
 put-requires c κs = (search (needs, found-few), search (needs, found-low), search (needs, found-short))
 
-same-length : tie.Need-same-length
-same-length c = search needs
-
 returns-2 : tie.Need-returns-2
 returns-2 c = search (needs, made)
 
@@ -39,13 +27,13 @@ pub make-spec : {M : Type 1} → statement M
 make-spec =
     tie.close
     (tie.spec
-    parts-requires
-    enum-known-verdict
+    (λ c κs. search needs)
+    (λ c. search needs)
     returns
-    enum-told
+    (λ c. search needs)
     sub-put
     part-put-start
     part-put-end
     put-requires
-    same-length
+    (λ c. search needs)
     returns-2)

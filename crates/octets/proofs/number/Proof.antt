@@ -27,17 +27,11 @@ loop-holds c =
     let n : length t ≤ c .if1 .i = rw length-take (omega arith) in
     (omega arith, i, sym (ap valueOf (drop-of-length-le t n)), rw sub-self (lit< tt))
 
-sub-i : tie.Need-sub-i Inv-loop μ-loop
-sub-i c = omega arith
-
 mul-x : tie.Need-mul-x Inv-loop μ-loop
 mul-x c =
     let l = c .before .before .loop in
     let f = byte-more-fits (c .before .before .before .if1 .i - l .i) (l .x) 0 (omega arith) (l .inv .3) (lit< tt) in
     omega arith
-
-shared-slice-read-x : tie.Need-shared-slice-read-x Inv-loop μ-loop
-shared-slice-read-x c = omega arith
 
 cast-x : tie.Need-cast-x Inv-loop μ-loop
 cast-x c = omega (arith, c .shared-slice-known .given (c .before .before .before .loop .i - 1))
@@ -47,9 +41,6 @@ add-x c =
     let l = c .before .before .before .loop in
     byte-more-fits (c .before .before .before .before .if1 .i - l .i) (l .x) _ (omega arith) (l .inv .3)
     (c .shared-slice-known .given (l .i - 1) .fits)
-
-loop-less : tie.Need-loop-less Inv-loop μ-loop
-loop-less c = omega arith
 
 loop-again : tie.Need-loop-again Inv-loop μ-loop
 loop-again c =
@@ -76,11 +67,11 @@ number-spec =
     Inv-loop
     μ-loop
     loop-holds
-    sub-i
+    (λ c. omega arith)
     mul-x
-    shared-slice-read-x
+    (λ c. omega arith)
     cast-x
     add-x
-    loop-less
+    (λ c. omega arith)
     loop-again
     returns)

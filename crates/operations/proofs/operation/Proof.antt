@@ -26,24 +26,6 @@ loop-holds c =
     let none = smallest-none (a .t1) (a .count) (a .reached) (a .target .0) (c .if1 .i) (pairs-eight (c .before)) in
     ⊎-elim (λ w. (omega arith, omega arith, none (omega arith))) (λ w. (omega arith, omega arith, none (omega arith))) (c .if1 .came)
 
-sub-i : tie.Need-sub-i Inv-loop μ-loop
-sub-i c = search needs
-
-mul-value : tie.Need-mul-value Inv-loop μ-loop
-mul-value c = search needs
-
-array-copy-out-value : tie.Need-array-copy-out-value Inv-loop μ-loop
-array-copy-out-value c = search needs
-
-value-requires : tie.Need-value-requires Inv-loop μ-loop
-value-requires c κs = search needs
-
-smaller-requires : tie.Need-smaller-requires Inv-loop μ-loop
-smaller-requires c κs = search needs
-
-loop-less : tie.Need-loop-less Inv-loop μ-loop
-loop-less c = search needs
-
 loop-again : tie.Need-loop-again Inv-loop μ-loop
 loop-again c =
     let entry = c .before .before .before .before .before .before .before in
@@ -72,11 +54,11 @@ operation-spec =
     Inv-loop
     μ-loop
     loop-holds
-    sub-i
-    mul-value
-    array-copy-out-value
-    value-requires
-    smaller-requires
-    loop-less
+    (λ c. search needs)
+    (λ c. search needs)
+    (λ c. search needs)
+    (λ c κs. search needs)
+    (λ c κs. search needs)
+    (λ c. search needs)
     loop-again
     returns)

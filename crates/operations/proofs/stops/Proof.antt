@@ -5,9 +5,6 @@ use Rattle.operations.proofs.ValueLaws.{stops-P, stops-flag}
 use Rattle.operations.proofs.stops.Statement.{statement}
 use Rattle.operations.proofs.stops.Tie as tie
 
-contains-requires : tie.Need-contains-requires
-contains-requires c κs = search needs
-
 returns : tie.Need-returns
 returns c = search (needs, stops-P)
 
@@ -15,4 +12,4 @@ returns-2 : tie.Need-returns-2
 returns-2 c = search (needs, stops-flag)
 
 pub stops-spec : {M : Type 1} → statement M
-stops-spec = tie.close (tie.spec contains-requires returns returns-2)
+stops-spec = tie.close (tie.spec (λ c κs. search needs) returns returns-2)

@@ -5,14 +5,8 @@ use Rattle.operations.proofs.ValueLaws.{value-P, value-R, value-halt, v
 use Rattle.operations.proofs.value.Statement.{statement}
 use Rattle.operations.proofs.value.Tie as tie
 
-contains-requires : tie.Need-contains-requires
-contains-requires c κs = search needs
-
 returns : tie.Need-returns
 returns c = search (needs, value-P)
-
-contains-requires-2 : tie.Need-contains-requires-2
-contains-requires-2 c κs = search needs
 
 returns-2 : tie.Need-returns-2
 returns-2 c = search (needs, value-R)
@@ -26,4 +20,4 @@ returns-4 c = search (needs, value-store, c .if3 .left)
 pub value-spec : {M : Type 1} → statement M
 value-spec =
     tie.close
-    (tie.spec contains-requires returns contains-requires-2 returns-2 returns-3 returns-4)
+    (tie.spec (λ c κs. search needs) returns (λ c κs. search needs) returns-2 returns-3 returns-4)

@@ -5,18 +5,6 @@ use Rattle.pachallu.proofs.ToldLaws.{start-sound, start-refused}
 use Rattle.pachallu.proofs.pachallu_fresh.Statement.{statement}
 use Rattle.pachallu.proofs.pachallu_fresh.Tie as tie
 
-fresh-requires : tie.Need-fresh-requires
-fresh-requires c κs = search needs
-
-enum-told : tie.Need-enum-told
-enum-told c = search needs
-
-enum-known-verdict : tie.Need-enum-known-verdict
-enum-known-verdict c = search needs
-
-told-requires : tie.Need-told-requires
-told-requires c κs = search needs
-
 returns : tie.Need-returns
 returns c = search (needs, start-sound)
 
@@ -26,4 +14,4 @@ returns-2 c = search (needs, start-refused)
 pub pachallu-fresh-spec : {M : Type 1} → statement M
 pachallu-fresh-spec =
     tie.close
-    (tie.spec fresh-requires enum-told enum-known-verdict told-requires returns returns-2)
+    (tie.spec (λ c κs. search needs) (λ c. search needs) (λ c. search needs) (λ c κs. search needs) returns returns-2)

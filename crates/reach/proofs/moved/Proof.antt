@@ -11,7 +11,8 @@ use Rattle.reach.proofs.moved.Statement.{statement}
 use Rattle.reach.proofs.moved.Tie as tie
 
 abbrev Inv-loop : tie.InvT-loop
-Inv-loop table states events from onto out₀ rest₀ passed₀ out rest passed = (passed ≤ 64) × (passed ≤ states) × (rest ≡ from / 2 ^ passed) × (out ≡ movedBelow table events from onto passed)
+Inv-loop table states events from onto out₀ rest₀ passed₀ out rest passed = (passed ≤ 64) × (passed ≤ states) × (rest ≡ from / 2 ^ passed)
+    × (out ≡ movedBelow table events from onto passed)
 
 abbrev μ-loop : tie.MeasureT-loop
 μ-loop table states events from onto out₀ rest₀ passed₀ out rest passed = 64 - passed
@@ -27,12 +28,6 @@ add-s c = search (needs, lowest-fits)
 
 returns : tie.Need-returns Inv-loop μ-loop
 returns c = search (needs, below-stop)
-
-with-moves-requires : tie.Need-with-moves-requires Inv-loop μ-loop
-with-moves-requires c κs = search needs
-
-cast-rest : tie.Need-cast-rest Inv-loop μ-loop
-cast-rest c = search needs
 
 shr-rest : tie.Need-shr-rest Inv-loop μ-loop
 shr-rest c = search (needs, lowest-shift)
@@ -59,8 +54,8 @@ moved-spec =
     cast-s
     add-s
     returns
-    with-moves-requires
-    cast-rest
+    (λ c κs. search needs)
+    (λ c. search needs)
     shr-rest
     add-passed
     loop-less

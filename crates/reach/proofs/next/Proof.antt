@@ -4,12 +4,6 @@ use Rattle.reach.proofs.StepLaws.{target-at, target-past}
 use Rattle.reach.proofs.next.Statement.{statement}
 use Rattle.reach.proofs.next.Tie as tie
 
-place-requires : tie.Need-place-requires
-place-requires c κs = search needs
-
-shared-slice-read-t10 : tie.Need-shared-slice-read-t10
-shared-slice-read-t10 c = search needs
-
 returns : tie.Need-returns
 returns c = search (needs, target-at)
 
@@ -17,4 +11,4 @@ returns-2 : tie.Need-returns-2
 returns-2 c = search (needs, target-past)
 
 pub next-spec : {M : Type 1} → statement M
-next-spec = tie.close (tie.spec place-requires shared-slice-read-t10 returns returns-2)
+next-spec = tie.close (tie.spec (λ c κs. search needs) (λ c. search needs) returns returns-2)

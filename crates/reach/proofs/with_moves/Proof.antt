@@ -22,44 +22,14 @@ Inv-loop2 table events s set out₀ e₀ out e = (e ≤ events) × (out ≡ with
 abbrev μ-loop2 : tie.MeasureT-loop2
 μ-loop2 table events s set out₀ e₀ out e = events - e
 
-place-requires : tie.Need-place-requires Inv-loop μ-loop Inv-loop2 μ-loop2
-place-requires c κs = search needs
-
 loop-holds : tie.Need-loop-holds Inv-loop μ-loop Inv-loop2 μ-loop2
 loop-holds c = (search needs, search needs, moves-none _ _ _ _)
-
-place-requires-2 : tie.Need-place-requires-2 Inv-loop μ-loop Inv-loop2 μ-loop2
-place-requires-2 c κs = search needs
-
-shared-slice-read-t16 : tie.Need-shared-slice-read-t16 Inv-loop μ-loop Inv-loop2 μ-loop2
-shared-slice-read-t16 c = omega arith
-
-insert-requires : tie.Need-insert-requires Inv-loop μ-loop Inv-loop2 μ-loop2
-insert-requires c κs = search needs
-
-add-e : tie.Need-add-e Inv-loop μ-loop Inv-loop2 μ-loop2
-add-e c = search needs
-
-loop-less : tie.Need-loop-less Inv-loop μ-loop Inv-loop2 μ-loop2
-loop-less c = search needs
 
 loop-again : tie.Need-loop-again Inv-loop μ-loop Inv-loop2 μ-loop2
 loop-again c = (search needs, search needs, search (needs, moves-read))
 
 loop2-holds : tie.Need-loop2-holds Inv-loop μ-loop Inv-loop2 μ-loop2
 loop2-holds c = (search needs, moves-none _ _ _ _)
-
-next-requires : tie.Need-next-requires Inv-loop μ-loop Inv-loop2 μ-loop2
-next-requires c κs = search needs
-
-insert-requires-2 : tie.Need-insert-requires-2 Inv-loop μ-loop Inv-loop2 μ-loop2
-insert-requires-2 c κs = search needs
-
-add-e-2 : tie.Need-add-e-2 Inv-loop μ-loop Inv-loop2 μ-loop2
-add-e-2 c = search needs
-
-loop2-less : tie.Need-loop2-less Inv-loop μ-loop Inv-loop2 μ-loop2
-loop2-less c = search needs
 
 loop2-again : tie.Need-loop2-again Inv-loop μ-loop Inv-loop2 μ-loop2
 loop2-again c = (search needs, search (needs, moves-more))
@@ -78,19 +48,19 @@ with-moves-spec =
     μ-loop
     Inv-loop2
     μ-loop2
-    place-requires
+    (λ c κs. search needs)
     loop-holds
-    place-requires-2
-    shared-slice-read-t16
-    insert-requires
-    add-e
-    loop-less
+    (λ c κs. search needs)
+    (λ c. omega arith)
+    (λ c κs. search needs)
+    (λ c. search needs)
+    (λ c. search needs)
     loop-again
     loop2-holds
-    next-requires
-    insert-requires-2
-    add-e-2
-    loop2-less
+    (λ c κs. search needs)
+    (λ c κs. search needs)
+    (λ c. search needs)
+    (λ c. search needs)
     loop2-again
     returns
     returns-2)

@@ -3,15 +3,10 @@
 use borrow.Author.Needs.{needs}
 use mathlib.Core.Path.{_≡_, sym, _∙_}
 use Rattle.rulefile.specs.Reading.{verdictOn}
-use Rattle.rulefile.proofs.ReadingLaws.{frame-wrong, frame-long, trailer-long, head-wrong, table-in-file, pairs-in-file, table-before-pairs, pairs-before-trailer, pairs-few, pairs-whole, body-told, parts-refused, body-right}
+use Rattle.rulefile.proofs.ReadingLaws.{frame-wrong, frame-long, trailer-long, head-wrong, table-in-file, pairs-in-file}
+use Rattle.rulefile.proofs.ReadingLaws.{table-before-pairs, pairs-before-trailer, pairs-few, pairs-whole, body-told, parts-refused, body-right}
 use Rattle.rulefile.proofs.parts.Statement.{statement}
 use Rattle.rulefile.proofs.parts.Tie as tie
-
-framed-requires : tie.Need-framed-requires
-framed-requires c κs = search needs
-
-refused-requires : tie.Need-refused-requires
-refused-requires c κs = search needs
 
 returns : tie.Need-returns
 returns c = search (needs, frame-wrong)
@@ -19,32 +14,11 @@ returns c = search (needs, frame-wrong)
 sub-trailer-of : tie.Need-sub-trailer-of
 sub-trailer-of c = search (needs, frame-long)
 
-sub-trailer-of-2 : tie.Need-sub-trailer-of-2
-sub-trailer-of-2 c = search needs
-
-part-trailer-of-start : tie.Need-part-trailer-of-start
-part-trailer-of-start c = search needs
-
-part-trailer-of-end : tie.Need-part-trailer-of-end
-part-trailer-of-end c = search needs
-
 trailer-of-requires : tie.Need-trailer-of-requires
 trailer-of-requires c κs = search (needs, trailer-long)
 
-headed-requires : tie.Need-headed-requires
-headed-requires c κs = search needs
-
-enum-known-verdict : tie.Need-enum-known-verdict
-enum-known-verdict c = search needs
-
-refused-requires-2 : tie.Need-refused-requires-2
-refused-requires-2 c κs = search needs
-
 returns-2 : tie.Need-returns-2
 returns-2 c = search (needs, head-wrong)
-
-enum-told : tie.Need-enum-told
-enum-told c = search needs
 
 sub-start : tie.Need-sub-start
 sub-start c = search (needs, table-in-file)
@@ -61,39 +35,23 @@ sub-pairs-of-2 c = search (needs, pairs-before-trailer)
 part-pairs-of-start : tie.Need-part-pairs-of-start
 part-pairs-of-start c = search (needs, pairs-before-trailer)
 
-part-pairs-of-end : tie.Need-part-pairs-of-end
-part-pairs-of-end c = search needs
-
 pairs-of-requires : tie.Need-pairs-of-requires
 pairs-of-requires c κs = (search (needs, pairs-few), search (needs, pairs-whole))
 
-sub-checked : tie.Need-sub-checked
-sub-checked c = search (needs, table-before-pairs)
+sub-check-body : tie.Need-sub-check-body
+sub-check-body c = search (needs, table-before-pairs)
 
-part-checked-start : tie.Need-part-checked-start
-part-checked-start c = search (needs, table-before-pairs)
-
-part-checked-end : tie.Need-part-checked-end
-part-checked-end c = search needs
-
-checked-requires : tie.Need-checked-requires
-checked-requires c κs = search needs
-
-enum-known-verdict-2 : tie.Need-enum-known-verdict-2
-enum-known-verdict-2 c = search needs
-
-refused-requires-3 : tie.Need-refused-requires-3
-refused-requires-3 c κs = search needs
+part-check-body-start : tie.Need-part-check-body-start
+part-check-body-start c = search (needs, table-before-pairs)
 
 -- what the checks came to is the verdict on the file
-told : (c : tie.After-checked) → c .checked .result ≡ verdictOn (c .before .before .before .before .before .before .before .before .before .before .before .before .before .before .before .args .file .now)
+told : (c : tie.After-check-body)
+    → c .check-body .result ≡ verdictOn (c .before .before .before .before .before .before .before .before .before .before .before .before .before
+    .before .before .args .file .now)
 told c = search (needs, body-told)
 
 returns-3 : tie.Need-returns-3
 returns-3 c = parts-refused _ (sym (told (c .before .before .before .before)) ∙ c .before .before .verdict2 .given .1) (c .refused3 .ensures)
-
-enum-told-2 : tie.Need-enum-told-2
-enum-told-2 c = search needs
 
 returns-4 : tie.Need-returns-4
 returns-4 c = search (needs, body-right)
@@ -102,32 +60,32 @@ pub parts-spec : {M : Type 1} → statement M
 parts-spec =
     tie.close
     (tie.spec
-    framed-requires
-    refused-requires
+    (λ c κs. search needs)
+    (λ c κs. search needs)
     returns
     sub-trailer-of
-    sub-trailer-of-2
-    part-trailer-of-start
-    part-trailer-of-end
+    (λ c. search needs)
+    (λ c. search needs)
+    (λ c. search needs)
     trailer-of-requires
-    headed-requires
-    enum-known-verdict
-    refused-requires-2
+    (λ c κs. search needs)
+    (λ c. search needs)
+    (λ c κs. search needs)
     returns-2
-    enum-told
+    (λ c. search needs)
     sub-start
     sub-end
     sub-pairs-of
     sub-pairs-of-2
     part-pairs-of-start
-    part-pairs-of-end
+    (λ c. search needs)
     pairs-of-requires
-    sub-checked
-    part-checked-start
-    part-checked-end
-    checked-requires
-    enum-known-verdict-2
-    refused-requires-3
+    sub-check-body
+    part-check-body-start
+    (λ c. search needs)
+    (λ c κs. search needs)
+    (λ c. search needs)
+    (λ c κs. search needs)
     returns-3
-    enum-told-2
+    (λ c. search needs)
     returns-4)

@@ -10,8 +10,5 @@ mul-result c = search (needs, product-fits)
 add-result : tie.Need-add-result
 add-result c = search (needs, place-fits)
 
-returns : tie.Need-returns
-returns c = search needs
-
 pub size-spec : {M : Type 1} → statement M
-size-spec = tie.close (tie.spec mul-result add-result returns)
+size-spec = tie.close (tie.spec mul-result add-result (λ c. search needs))

@@ -14,21 +14,9 @@ returns-2 : tie.Need-returns-2
 unfolding framed
 returns-2 c = search tests
 
-sub-if3 : tie.Need-sub-if3
-sub-if3 c = search needs
-
-shared-slice-read-if3 : tie.Need-shared-slice-read-if3
-shared-slice-read-if3 c = search needs
-
 returns-3 : tie.Need-returns-3
 unfolding framed
 returns-3 c = search tests
-
-sub-result : tie.Need-sub-result
-sub-result c = search needs
-
-shared-slice-read-result : tie.Need-shared-slice-read-result
-shared-slice-read-result c = search needs
 
 returns-4 : tie.Need-returns-4
 unfolding framed
@@ -40,9 +28,9 @@ framed-spec =
     (tie.spec
     returns
     returns-2
-    sub-if3
-    shared-slice-read-if3
+    (λ c. search needs)
+    (λ c. search needs)
     returns-3
-    sub-result
-    shared-slice-read-result
+    (λ c. search needs)
+    (λ c. search needs)
     returns-4)

@@ -8,21 +8,6 @@ use Rattle.rule.proofs.ByteLaws.{bytes-mul}
 use Rattle.trailer.proofs.placed.Statement.{statement}
 use Rattle.trailer.proofs.placed.Tie as tie
 
-cast-pairs : tie.Need-cast-pairs
-cast-pairs c = search needs
-
-mul-pairs : tie.Need-mul-pairs
-mul-pairs c = search needs
-
-add-pairs : tie.Need-add-pairs
-add-pairs c = search needs
-
-cast-table : tie.Need-cast-table
-cast-table c = search needs
-
-cast-table-2 : tie.Need-cast-table-2
-cast-table-2 c = search needs
-
 mul-table : tie.Need-mul-table
 mul-table c =
     let s = c .before .before .before .before .args .trailer .shape in
@@ -53,11 +38,11 @@ pub placed-spec : {M : Type 1} → statement M
 placed-spec =
     tie.close
     (tie.spec
-    cast-pairs
-    mul-pairs
-    add-pairs
-    cast-table
-    cast-table-2
+    (λ c. search needs)
+    (λ c. search needs)
+    (λ c. search needs)
+    (λ c. search needs)
+    (λ c. search needs)
     mul-table
     add-table
     returns

@@ -5,11 +5,8 @@ use Rattle.trailer.proofs.HeadLaws.{range-tested}
 use Rattle.trailer.proofs.ranged.Statement.{statement}
 use Rattle.trailer.proofs.ranged.Tie as tie
 
-hold-requires : tie.Need-hold-requires
-hold-requires c κs = search needs
-
 returns : tie.Need-returns
 returns c = search (needs, range-tested)
 
 pub ranged-spec : {M : Type 1} → statement M
-ranged-spec = tie.close (tie.spec hold-requires returns)
+ranged-spec = tie.close (tie.spec (λ c κs. search needs) returns)

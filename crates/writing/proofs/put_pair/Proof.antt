@@ -13,33 +13,6 @@ use Rattle.octets.proofs.ListLaws.{part-length, part-last}
 use Rattle.writing.proofs.put_pair.Statement.{statement}
 use Rattle.writing.proofs.put_pair.Tie as tie
 
-sub-put-number : tie.Need-sub-put-number
-sub-put-number c = search needs
-
-part-put-number-start : tie.Need-part-put-number-start
-part-put-number-start c = search needs
-
-part-put-number-end : tie.Need-part-put-number-end
-part-put-number-end c = search needs
-
-put-number-requires : tie.Need-put-number-requires
-put-number-requires c κs = search needs
-
-sub-put-number-2 : tie.Need-sub-put-number-2
-sub-put-number-2 c = search needs
-
-part-put-number-start-2 : tie.Need-part-put-number-start-2
-part-put-number-start-2 c = search needs
-
-part-put-number-end-2 : tie.Need-part-put-number-end-2
-part-put-number-end-2 c = search needs
-
-put-number-requires-2 : tie.Need-put-number-requires-2
-put-number-requires-2 c κs = search needs
-
-same-length : tie.Need-same-length
-same-length c = search needs
-
 returns : tie.Need-returns
 returns c =
     let a = c .before .before .before .before .before .before .before .before .before .args in
@@ -56,13 +29,13 @@ pub put-pair-spec : {M : Type 1} → statement M
 put-pair-spec =
     tie.close
     (tie.spec
-    sub-put-number
-    part-put-number-start
-    part-put-number-end
-    put-number-requires
-    sub-put-number-2
-    part-put-number-start-2
-    part-put-number-end-2
-    put-number-requires-2
-    same-length
+    (λ c. search needs)
+    (λ c. search needs)
+    (λ c. search needs)
+    (λ c κs. search needs)
+    (λ c. search needs)
+    (λ c. search needs)
+    (λ c. search needs)
+    (λ c κs. search needs)
+    (λ c. search needs)
     returns)

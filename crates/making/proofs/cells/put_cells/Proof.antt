@@ -17,17 +17,11 @@ abbrev μ-loop : tie.MeasureT-loop
 loop-holds : tie.Need-loop-holds Inv-loop μ-loop
 loop-holds c = (search needs, refl, refl)
 
-shared-slice-read-t : tie.Need-shared-slice-read-t Inv-loop μ-loop
-shared-slice-read-t c = search needs
-
 cast-mark : tie.Need-cast-mark Inv-loop μ-loop
 cast-mark c = search (needs, entry-fits)
 
 array-copy-out-mark : tie.Need-array-copy-out-mark Inv-loop μ-loop
 array-copy-out-mark c = search (needs, entry-in)
-
-mark-requires : tie.Need-mark-requires Inv-loop μ-loop
-mark-requires c κs = search needs
 
 mul-out : tie.Need-mul-out Inv-loop μ-loop
 mul-out c = search (needs, mark-fits)
@@ -35,25 +29,14 @@ mul-out c = search (needs, mark-fits)
 add-out : tie.Need-add-out Inv-loop μ-loop
 add-out c = search (needs, cell-fits)
 
-slice-write-out : tie.Need-slice-write-out Inv-loop μ-loop
-slice-write-out c = search needs
-
-add-i : tie.Need-add-i Inv-loop μ-loop
-add-i c = search needs
-
-loop-less : tie.Need-loop-less Inv-loop μ-loop
-loop-less c = search needs
-
 loop-again : tie.Need-loop-again Inv-loop μ-loop
 loop-again c = (search needs, search (needs, length-set), search (needs, cells-more))
-
-same-length : tie.Need-same-length Inv-loop μ-loop
-same-length c = search needs
 
 returns : tie.Need-returns Inv-loop μ-loop
 returns c =
     let start = c .before .before .before .before in
-    cells-all (start .args .t3) (start .args .table .now) _ (start .args .out .now) (c .before .loop .i) (c .before .loop .inv .2) (start .pre .0) (search needs) (search needs)
+    cells-all (start .args .t3) (start .args .table .now) _ (start .args .out .now) (c .before .loop .i) (c .before .loop .inv .2) (start .pre .0)
+    (search needs) (search needs)
 
 pub put-cells-spec : {M : Type 1} → statement M
 put-cells-spec =
@@ -62,15 +45,15 @@ put-cells-spec =
     Inv-loop
     μ-loop
     loop-holds
-    shared-slice-read-t
+    (λ c. search needs)
     cast-mark
     array-copy-out-mark
-    mark-requires
+    (λ c κs. search needs)
     mul-out
     add-out
-    slice-write-out
-    add-i
-    loop-less
+    (λ c. search needs)
+    (λ c. search needs)
+    (λ c. search needs)
     loop-again
-    same-length
+    (λ c. search needs)
     returns)

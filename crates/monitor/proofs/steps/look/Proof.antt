@@ -4,26 +4,17 @@ use Rattle.monitor.proofs.EventLaws.{run-12, cell-inside, code-13, plac
 use Rattle.monitor.proofs.steps.look.Statement.{statement}
 use Rattle.monitor.proofs.steps.look.Tie as tie
 
-unfit-requires : tie.Need-unfit-requires
-unfit-requires c κs = search needs
-
 returns : tie.Need-returns
 returns c = search (needs, run-12)
 
 returns-2 : tie.Need-returns-2
 returns-2 c = search (needs, code-13)
 
-place-requires : tie.Need-place-requires
-place-requires c κs = search needs
-
 shared-slice-read-read : tie.Need-shared-slice-read-read
 shared-slice-read-read c = search (needs, cell-inside)
-
-read-requires : tie.Need-read-requires
-read-requires c κs = search needs
 
 returns-3 : tie.Need-returns-3
 returns-3 c = search (needs, place-fits)
 
 pub look-spec : {M : Type 1} → statement M
-look-spec = tie.close (tie.spec unfit-requires returns returns-2 place-requires shared-slice-read-read read-requires returns-3)
+look-spec = tie.close (tie.spec (λ c κs. search needs) returns returns-2 (λ c κs. search needs) shared-slice-read-read (λ c κs. search needs) returns-3)

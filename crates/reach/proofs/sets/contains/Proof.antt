@@ -7,12 +7,6 @@ use Rattle.rule.proofs.SetLaws.{has-past}
 use Rattle.reach.proofs.sets.contains.Statement.{statement}
 use Rattle.reach.proofs.sets.contains.Tie as tie
 
-cast-result : tie.Need-cast-result
-cast-result c = search needs
-
-shr-result : tie.Need-shr-result
-shr-result c = search needs
-
 returns : tie.Need-returns
 unfolding has
 returns c = refl
@@ -21,4 +15,4 @@ returns-2 : tie.Need-returns-2
 returns-2 c = sym (has-past 64 _ _ (search needs) (c .if1 .left))
 
 pub contains-spec : {M : Type 1} → statement M
-contains-spec = tie.close (tie.spec cast-result shr-result returns returns-2)
+contains-spec = tie.close (tie.spec (λ c. search needs) (λ c. search needs) returns returns-2)

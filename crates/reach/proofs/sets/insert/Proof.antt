@@ -5,12 +5,6 @@ use Rattle.rule.proofs.SetLaws.{or-including, including-past}
 use Rattle.reach.proofs.sets.insert.Statement.{statement}
 use Rattle.reach.proofs.sets.insert.Tie as tie
 
-cast-result : tie.Need-cast-result
-cast-result c = search needs
-
-shl-result : tie.Need-shl-result
-shl-result c = search needs
-
 returns : tie.Need-returns
 returns c = search (needs, or-including)
 
@@ -18,4 +12,4 @@ returns-2 : tie.Need-returns-2
 returns-2 c = search (needs, including-past)
 
 pub insert-spec : {M : Type 1} → statement M
-insert-spec = tie.close (tie.spec cast-result shl-result returns returns-2)
+insert-spec = tie.close (tie.spec (λ c. search needs) (λ c. search needs) returns returns-2)

@@ -30,54 +30,6 @@ loop-holds : tie.Need-loop-holds Inv-loop μ-loop
 unfolding upTo padded
 loop-holds c = (omega arith, refl, refl)
 
-mul-at : tie.Need-mul-at Inv-loop μ-loop
-mul-at c = omega arith
-
-add-number : tie.Need-add-number Inv-loop μ-loop
-add-number c = omega arith
-
-sub-number : tie.Need-sub-number Inv-loop μ-loop
-sub-number c = omega arith
-
-part-number-start : tie.Need-part-number-start Inv-loop μ-loop
-part-number-start c = omega arith
-
-part-number-end : tie.Need-part-number-end Inv-loop μ-loop
-part-number-end c = omega arith
-
-number-requires : tie.Need-number-requires Inv-loop μ-loop
-number-requires c κs = omega arith
-
-add-number-2 : tie.Need-add-number-2 Inv-loop μ-loop
-add-number-2 c = omega arith
-
-add-number-3 : tie.Need-add-number-3 Inv-loop μ-loop
-add-number-3 c = omega arith
-
-sub-number-2 : tie.Need-sub-number-2 Inv-loop μ-loop
-sub-number-2 c = omega arith
-
-part-number-start-2 : tie.Need-part-number-start-2 Inv-loop μ-loop
-part-number-start-2 c = omega arith
-
-part-number-end-2 : tie.Need-part-number-end-2 Inv-loop μ-loop
-part-number-end-2 c = omega arith
-
-number-requires-2 : tie.Need-number-requires-2 Inv-loop μ-loop
-number-requires-2 c κs = omega arith
-
-mul-pairs : tie.Need-mul-pairs Inv-loop μ-loop
-mul-pairs c = omega arith
-
-array-set-from-pairs : tie.Need-array-set-from-pairs Inv-loop μ-loop
-array-set-from-pairs c = omega arith
-
-add-i : tie.Need-add-i Inv-loop μ-loop
-add-i c = omega arith
-
-loop-less : tie.Need-loop-less Inv-loop μ-loop
-loop-less c = omega arith
-
 loop-again : tie.Need-loop-again Inv-loop μ-loop
 unfolding upTo
 loop-again c =
@@ -104,21 +56,21 @@ pairs-of-spec =
     Inv-loop
     μ-loop
     loop-holds
-    mul-at
-    add-number
-    sub-number
-    part-number-start
-    part-number-end
-    number-requires
-    add-number-2
-    add-number-3
-    sub-number-2
-    part-number-start-2
-    part-number-end-2
-    number-requires-2
-    mul-pairs
-    array-set-from-pairs
-    add-i
-    loop-less
+    (λ c. omega arith)
+    (λ c. omega arith)
+    (λ c. omega arith)
+    (λ c. omega arith)
+    (λ c. omega arith)
+    (λ c κs. omega arith)
+    (λ c. omega arith)
+    (λ c. omega arith)
+    (λ c. omega arith)
+    (λ c. omega arith)
+    (λ c. omega arith)
+    (λ c κs. omega arith)
+    (λ c. omega arith)
+    (λ c. omega arith)
+    (λ c. omega arith)
+    (λ c. omega arith)
     loop-again
     returns)

@@ -1,0 +1,52 @@
+/* rule.h: a rule taken out of its file, or about to be written into one, and what the library says of it. */
+#ifndef RULE_H
+#define RULE_H
+
+#include <pachallu.h>
+
+#include "names.h"
+#include "streams.h"
+
+enum { SAFETY = 1, GUARANTEE, OBLIGATION, RESPONSE, CLASSES };
+
+/* The word for a class from 1 to 4. */
+extern const char *const class_words[CLASSES];
+
+struct rule {
+    size_t class, states, codes, pairs, start;
+    uint8_t table[PACHALLU_STATES_MAX * PACHALLU_EVENTS_MAX]; /* by state, then by code */
+    uint64_t r[PACHALLU_PAIRS_MAX], p[PACHALLU_PAIRS_MAX];    /* bit s for state s */
+    struct names names;
+    uint8_t note[NOTE_MOST]; /* what the note has besides the names */
+    size_t note_len;
+};
+
+size_t move_of(const struct rule *rule, size_t state, size_t code);
+bool in_set(uint64_t set, size_t state);
+/* Does the state lie in R or P of every pair? */
+bool is_accepting(const struct rule *rule, size_t state);
+
+/* The file of a rule, names and all; 0 where the note would be over NOTE_MOST bytes. `note_len` is what it takes. */
+size_t rule_to_file(const struct rule *rule, bool with_names, uint8_t bytes[PACHALLU_RULE_MAX], size_t *note_len);
+
+/* A file that was read, and its answer: a refusal with the rule's places, or the rule's sheet. */
+struct loaded {
+    const char *file;
+    uint8_t bytes[PACHALLU_RULE_MAX + 1]; /* one more shows a file that is too long */
+    size_t len;
+    uint8_t sheet[PACHALLU_SHEET_MAX];
+    pachallu_made made;
+    struct rule rule; /* all 0 for a refusal from 1 to 4: the file has no parts then */
+};
+
+/* Asks the library about the bytes, and takes the rule out of them. */
+void judge(struct loaded *loaded);
+/* Reads a rule file. DONE: read, and accepted or refused; FAILED, and told: it could not be read. */
+enum status load(const char *file, struct loaded *loaded);
+/* The same, where only an accepted rule will do; a refused one is told and is ANSWER_NO. */
+enum status load_accepted(const char *file, struct loaded *loaded);
+
+/* The stopping states of a loaded rule, as the proved text tells them. */
+uint64_t stopping_states(const struct loaded *loaded);
+
+#endif

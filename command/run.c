@@ -1,0 +1,197 @@
+/* run.c: pachallu run: a book of codes through the monitor of a rule. */
+#include <stdio.h>
+#include <stdlib.h>
+#include <string.h>
+#include <unistd.h>
+
+#include "codes.h"
+#include "command.h"
+#include "words.h"
+
+/* The most codes that are held, so that an endless book ends; the released codes that -t lists again at the end. */
+#define HELD_MOST ((size_t)1 << 28)
+enum { LISTED = 4096, ALL_CODES = 256 };
+
+/* A code as it is printed in a list, a space before it. */
+struct word {
+    char text[NAME_MOST + 2];
+    size_t len;
+};
+
+struct course {
+    const struct loaded *loaded;
+    bool tell_each;
+    struct sink out;
+    struct codes book;
+    struct word words[ALL_CODES];
+    size_t widest;
+    /* the run state, and room for what is held and for what is released at once */
+    uint8_t state;
+    size_t held, room;
+    uint8_t *memory, *output;
+    /* what has come of it */
+    size_t released, halted_at, halted_line;
+    size_t not_taken, not_taken_at, not_taken_line;
+    uint8_t not_taken_code, not_taken_for;
+    uint8_t listed[LISTED];
+};
+
+/* Characters, as the screen counts them. */
+static size_t width(const struct word *word) {
+    size_t count = 0;
+    for (size_t i = 1; i < word->len; i++) count += ((unsigned char)word->text[i] & 0xc0) != 0x80;
+    return count;
+}
+
+static void name_codes(struct course *c) {
+    const struct rule *rule = &c->loaded->rule;
+    for (size_t code = 0; code < ALL_CODES; code++) {
+        struct word *word = &c->words[code];
+        if (code < rule->codes)
+            snprintf(word->text, sizeof word->text, " %s", word_for(rule->names.code, code));
+        else
+            snprintf(word->text, sizeof word->text, " %zu", code);
+        word->len = strlen(word->text);
+        if (code < rule->codes && width(word) > c->widest) c->widest = width(word);
+    }
+    if (c->widest < 3) c->widest = 3;
+}
+
+static void put_code(struct course *c, uint8_t code) { put_bytes(&c->out, c->words[code].text, c->words[code].len); }
+
+static void put_list(struct course *c, const char *what, const uint8_t *codes, size_t count) {
+    put_text(&c->out, what);
+    for (size_t i = 0; i < count; i++) put_code(c, codes[i]);
+    put_text(&c->out, count > 0 ? "\n" : " none\n");
+}
+
+/* ---- with -t: a line for each code */
+
+static void tell_code(struct course *c, uint8_t code) {
+    put_line(&c->out, "%4zu ", c->book.count);
+    put_code(c, code);
+    for (size_t i = width(&c->words[code]); i < c->widest + 2; i++) put_text(&c->out, " ");
+}
+
+static void tell_answer(struct course *c, uint8_t code, const pachallu_answer *answer) {
+    tell_code(c, code);
+    if (answer->refusal)
+        put_line(&c->out, "not taken: %s\n", not_taken_words(answer->refusal));
+    else if (answer->operation == PACHALLU_DUMP)
+        put_list(c, "dump   out:", c->output, answer->released);
+    else if (answer->operation == PACHALLU_STORE)
+        put_line(&c->out, "store  %zu held\n", answer->held);
+    else
+        put_text(&c->out, "halt\n");
+}
+
+/* ---- the run */
+
+/* Room for one code more; false, and told, where too many are held. */
+static bool more_room(struct course *c) {
+    if (c->held < c->room) return true;
+    if (c->held == HELD_MOST) {
+        tell(c->book.file, c->book.code_line, "%zu codes are held, the most that this command holds. The run ends here", c->held);
+        return false;
+    }
+    c->room = c->room ? 2 * c->room : BOOK_BLOCK;
+    c->memory = room_for(c->memory, c->room);
+    c->output = room_for(c->output, c->room + 1);
+    return true;
+}
+
+static void release(struct course *c, size_t count) {
+    for (size_t i = 0; i < count && c->tell_each; i++)
+        if (c->released + i < LISTED) c->listed[c->released + i] = c->output[i];
+    if (!c->tell_each && c->released == 0 && count > 0) put_text(&c->out, "released ");
+    for (size_t i = 0; i < count && !c->tell_each; i++) put_code(c, c->output[i]);
+    c->released += count;
+}
+
+static void note_not_taken(struct course *c, uint8_t code, uint8_t refusal) {
+    if (c->not_taken++ > 0) return;
+    c->not_taken_at = c->book.count;
+    c->not_taken_line = c->book.code_line;
+    c->not_taken_code = code;
+    c->not_taken_for = refusal;
+}
+
+static void take(struct course *c, uint8_t code) {
+    pachallu_answer answer = pachallu_event(c->loaded->sheet, c->loaded->made.written, c->state, c->held, code, c->memory, c->room,
+                                            c->output, c->room + 1);
+    if (c->tell_each) tell_answer(c, code, &answer);
+    if (answer.refusal) { /* nothing has changed; the next one is offered */
+        note_not_taken(c, code, answer.refusal);
+        return;
+    }
+    if (answer.released > 0) release(c, answer.released);
+    if (answer.operation == PACHALLU_HALT && !c->halted_at) {
+        c->halted_at = c->book.count;
+        c->halted_line = c->book.code_line;
+        c->book.keep = true;
+    }
+    c->state = answer.state;
+    c->held = answer.held;
+}
+
+/* ---- what came of it */
+
+static void put_released(struct course *c) {
+    if (c->released == 0)
+        put_text(&c->out, "released  none\n");
+    else if (!c->tell_each)
+        put_text(&c->out, "\n");
+    else if (c->released <= LISTED)
+        put_list(c, "released ", c->listed, c->released);
+    else
+        put_line(&c->out, "released  %zu codes, each told above\n", c->released);
+}
+
+static void put_report(struct course *c) {
+    put_released(c);
+    put_list(c, "held     ", c->memory, c->held);
+    if (c->halted_at)
+        put_line(&c->out, "halted    at code %zu, line %zu of the book: %s\n", c->halted_at, c->halted_line,
+                 visible(c->book.text, c->book.text_len));
+    else
+        put_text(&c->out, "halted    nowhere\n");
+    if (c->not_taken)
+        put_line(&c->out, "not taken %zu code%s, the first at code %zu, line %zu of the book:%s: %s\n", c->not_taken,
+                 c->not_taken == 1 ? "" : "s", c->not_taken_at, c->not_taken_line, c->words[c->not_taken_code].text,
+                 not_taken_words(c->not_taken_for));
+}
+
+static enum status run_book(struct course *c) {
+    uint8_t code = 0;
+    enum came came = A_CODE;
+    bool room = true;
+    while ((room = more_room(c)) && (came = next_code(&c->book, &code)) == A_CODE) take(c, code);
+    codes_close(&c->book);
+    if (came == NOT_READ && c->book.count == 0) return FAILED;
+    put_report(c);
+    if (!room || came == NOT_READ) return FAILED;
+    return came == NO_CODE || c->halted_at || c->held || c->not_taken ? ANSWER_NO : DONE;
+}
+
+enum status command_run(const struct arguments *arguments) {
+    static struct loaded loaded;
+    static struct course c;
+    const char *rule = arguments->operand[0], *book = arguments->operand[1];
+    if (strcmp(rule, "-") == 0 && strcmp(book, "-") == 0) {
+        tell(NULL, 0, "run: the rule and the book cannot both be standard input");
+        return FAILED;
+    }
+    enum status status = load_accepted(rule, &loaded);
+    if (status != DONE) return status;
+    c.loaded = &loaded;
+    c.tell_each = arguments->tell_each;
+    c.out = sink_to(STDOUT_FILENO);
+    name_codes(&c);
+    pachallu_start start = pachallu_fresh(loaded.sheet, loaded.made.written);
+    c.state = start.state;
+    c.held = start.held;
+    status = codes_open(&c.book, book, &loaded.rule.names, &c.out) ? run_book(&c) : FAILED;
+    free(c.memory);
+    free(c.output);
+    return end_output(&c.out, status);
+}
