@@ -71,11 +71,12 @@ callsOf sheet run (e ∷ es) memory output =
     goOn (answerIn turn (run .held)) e run (memoryIn turn (run .held) e memory) (outputIn turn (run .held) e memory output)
     (λ next left rest. callsOf sheet next es left rest)
 
--- 11 and 12, which an empty log gives too
+-- 11 and 12
 abbrev pub standsBy : Opened → Run → (room : ℕ) → Verdict
 standsBy Shut run room = Refused NoSheet
 standsBy (Sheet h) run room = refuseIf (unfit h run room) BadRun
 
+-- an empty log still gives these; any other is the single calls, of which the first gives them
 abbrev pub shortEvening : (sheet : List ℕ) → Run → (log memory output : List ℕ) → Outcome
 shortEvening sheet run [] memory output = idle run memory output (standsBy (openedOf sheet) run (length memory))
 shortEvening sheet run (e ∷ es) memory output = callsOf sheet run (e ∷ es) memory output

@@ -206,12 +206,12 @@ pub extern "C" fn pachallu_events(
     let verdict = evening.verdict;
     let told = told_of(verdict);
     let after = evening.run;
-    let next = after.state;
+    let at = after.state;
     Evening {
         refusal: told.number,
         a: told.a,
         b: told.b,
-        state: next.0,
+        state: at.0,
         held: after.held,
         taken: evening.taken,
         released: evening.released,

@@ -101,8 +101,9 @@ fn put(command: u8, bytes: &[u8], out: &mut [u8]) -> bool {
 
 // A command by its letter. Answers whether there is one with so many numbers.
 pub(crate) fn call(command: u8, numbers: &[u8], bytes: &[u8]) -> bool {
-    if command == b'e' {
-        return runs::event(bytes, numbers);
+    match command {
+        b'e' | b'v' | b'l' => return runs::event(command, bytes, numbers),
+        _ => {}
     }
     if numbers.len() == 1 {
         let mut whole = [171u8; 255];
