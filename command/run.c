@@ -12,6 +12,9 @@
 #define HELD_MOST ((size_t)1 << 28)
 enum { LISTED = 4096, ALL_CODES = 256 };
 
+/* The refusal of a code that the rule does not have. A block gets no other one: the sheet was made here, and there is room. */
+enum { NOT_OF_THE_RULE = 13 };
+
 /* A code as it is printed in a list, a space before it. */
 struct word {
     char text[NAME_MOST + 2];
@@ -32,7 +35,8 @@ struct course {
     /* what has come of it */
     size_t released, halted_at, halted_line;
     size_t not_taken, not_taken_at, not_taken_line;
-    uint8_t not_taken_code, not_taken_for;
+    uint8_t not_taken_code;
+    uint8_t fault; /* a refusal that should never be; 0: none */
     uint8_t listed[LISTED];
 };
 
@@ -73,13 +77,13 @@ static void tell_code(struct course *c, uint8_t code) {
     for (size_t i = width(&c->words[code]); i < c->widest + 2; i++) put_text(&c->out, " ");
 }
 
-static void tell_answer(struct course *c, uint8_t code, const pachallu_answer *answer) {
+static void tell_answer(struct course *c, uint8_t code, const pachallu_evening *answer) {
     tell_code(c, code);
     if (answer->refusal)
         put_line(&c->out, "not taken: %s\n", not_taken_words(answer->refusal));
-    else if (answer->operation == PACHALLU_DUMP)
+    else if (answer->released > 0)
         put_list(c, "dump   out:", c->output, answer->released);
-    else if (answer->operation == PACHALLU_STORE)
+    else if (answer->held > c->held)
         put_line(&c->out, "store  %zu held\n", answer->held);
     else
         put_text(&c->out, "halt\n");
@@ -87,17 +91,22 @@ static void tell_answer(struct course *c, uint8_t code, const pachallu_answer *a
 
 /* ---- the run */
 
-/* Room for one code more; false, and told, where too many are held. */
-static bool more_room(struct course *c) {
-    if (c->held < c->room) return true;
-    if (c->held == HELD_MOST) {
-        tell(c->book.file, c->book.code_line, "%zu codes are held, the most that this command holds. The run ends here", c->held);
-        return false;
-    }
-    c->room = c->room ? 2 * c->room : BOOK_BLOCK;
+/* The most codes for the next block; 0, and told, where too many are held. */
+static size_t most_codes(struct course *c) {
+    size_t most = c->tell_each ? 1 : PACHALLU_LOG_MAX, left = HELD_MOST - c->held;
+    if (left == 0)
+        tell(c->book.file, line_of_code(&c->book, c->book.gathered - 1),
+             "%zu codes are held, the most that this command holds. The run ends here", c->held);
+    return left < most ? left : most;
+}
+
+/* Room to hold, or to release, all that is held and the block. */
+static void make_room(struct course *c) {
+    size_t wanted = c->held + c->book.gathered, old = c->room;
+    while (c->room < wanted) c->room = c->room ? 2 * c->room : BOOK_READ;
+    if (c->room == old) return;
     c->memory = room_for(c->memory, c->room);
-    c->output = room_for(c->output, c->room + 1);
-    return true;
+    c->output = room_for(c->output, c->room);
 }
 
 static void release(struct course *c, size_t count) {
@@ -108,30 +117,46 @@ static void release(struct course *c, size_t count) {
     c->released += count;
 }
 
-static void note_not_taken(struct course *c, uint8_t code, uint8_t refusal) {
-    if (c->not_taken++ > 0) return;
-    c->not_taken_at = c->book.count;
-    c->not_taken_line = c->book.code_line;
-    c->not_taken_code = code;
-    c->not_taken_for = refusal;
+/* `place` is that of the code in the block. */
+static void note_halt(struct course *c, size_t place) {
+    c->halted_at = number_of_code(&c->book, place);
+    c->halted_line = line_of_code(&c->book, place);
+    keep_line(&c->book, place);
 }
 
-static void take(struct course *c, uint8_t code) {
-    pachallu_answer answer = pachallu_event(c->loaded->sheet, c->loaded->made.written, c->state, c->held, code, c->memory, c->room,
-                                            c->output, c->room + 1);
-    if (c->tell_each) tell_answer(c, code, &answer);
-    if (answer.refusal) { /* nothing has changed; the next one is offered */
-        note_not_taken(c, code, answer.refusal);
-        return;
-    }
-    if (answer.released > 0) release(c, answer.released);
-    if (answer.operation == PACHALLU_HALT && !c->halted_at) {
-        c->halted_at = c->book.count;
-        c->halted_line = c->book.code_line;
-        c->book.keep = true;
-    }
+static void note_not_taken(struct course *c, size_t place) {
+    if (c->not_taken++ > 0) return;
+    c->not_taken_at = number_of_code(&c->book, place);
+    c->not_taken_line = line_of_code(&c->book, place);
+    c->not_taken_code = c->book.block[place];
+}
+
+/* Offers the block from `place` on; answers how many of its codes are done with. */
+static size_t offer(struct course *c, size_t place) {
+    const uint8_t *log = c->book.block + place;
+    pachallu_evening answer = pachallu_events(c->loaded->sheet, c->loaded->made.written, c->state, c->held, log,
+                                              c->book.gathered - place, c->memory, c->room, c->output, c->room);
+    /* what is taken is released, held or halted; and behind the first halt there is nothing else */
+    size_t halted = c->held + answer.taken - answer.released - answer.held;
+    if (c->tell_each) tell_answer(c, log[0], &answer);
+    release(c, answer.released);
+    if (halted > 0 && !c->halted_at) note_halt(c, place + answer.taken - halted);
     c->state = answer.state;
     c->held = answer.held;
+    if (!answer.refusal) return answer.taken;
+    if (answer.refusal == NOT_OF_THE_RULE)
+        note_not_taken(c, place + answer.taken); /* it has changed nothing; the next one is offered */
+    else
+        c->fault = answer.refusal;
+    return answer.taken + 1;
+}
+
+static void take_block(struct course *c) {
+    make_room(c);
+    for (size_t done = 0; done < c->book.gathered && !c->fault;) done += offer(c, done);
+    if (c->fault)
+        tell(NULL, 0, "run: a fault of this program: refusal %u: %s. The run ends here", (unsigned)c->fault,
+             pachallu_refusal_text(c->fault));
 }
 
 /* ---- what came of it */
@@ -158,18 +183,17 @@ static void put_report(struct course *c) {
     if (c->not_taken)
         put_line(&c->out, "not taken %zu code%s, the first at code %zu, line %zu of the book:%s: %s\n", c->not_taken,
                  c->not_taken == 1 ? "" : "s", c->not_taken_at, c->not_taken_line, c->words[c->not_taken_code].text,
-                 not_taken_words(c->not_taken_for));
+                 not_taken_words(NOT_OF_THE_RULE));
 }
 
 static enum status run_book(struct course *c) {
-    uint8_t code = 0;
-    enum came came = A_CODE;
-    bool room = true;
-    while ((room = more_room(c)) && (came = next_code(&c->book, &code)) == A_CODE) take(c, code);
+    enum came came = CODES;
+    size_t most = 0;
+    while (!c->fault && (most = most_codes(c)) > 0 && (came = next_codes(&c->book, most)) == CODES) take_block(c);
     codes_close(&c->book);
     if (came == NOT_READ && c->book.count == 0) return FAILED;
     put_report(c);
-    if (!room || came == NOT_READ) return FAILED;
+    if (most == 0 || c->fault || came == NOT_READ) return FAILED;
     return came == NO_CODE || c->halted_at || c->held || c->not_taken ? ANSWER_NO : DONE;
 }
 

@@ -12,7 +12,7 @@ mod monitor;
 mod plain;
 
 use dice::Dice;
-use library::{Answer, Made};
+use library::{Answer, Evening, Made};
 
 /// What is counted has no test for empty buffers (host/library.rs).
 pub const NULL_FOR_EMPTY: bool = false;
@@ -91,6 +91,24 @@ impl Bench {
         });
     }
 
+    /// A whole log in one call, beside plain Rust that opens the sheet once, and beside as many single calls.
+    fn evening(&mut self, case: &str, sheet: &[u8], log: &[u8]) {
+        const ROOM: usize = 8192;
+        let (mut memory, mut output) = (vec![0u8; ROOM], vec![0u8; ROOM]);
+        let (mut m2, mut o2) = (memory.clone(), output.clone());
+        let library: Evening = library::events(sheet, 0, 0, log, &mut memory, &mut output);
+        let plain: Evening = plain::events(sheet, 0, 0, log, &mut m2, &mut o2);
+        assert!(library == plain && memory == m2 && output == o2, "{}: {:?} and {:?}", case, library, plain);
+        let singly = single_calls(sheet, log, &mut m2, &mut o2);
+        assert!(library == singly && memory == m2 && output == o2, "{}: {:?} and {:?}", case, library, singly);
+        assert!(library.refusal == 0 && library.taken == log.len());
+        let turns = [(); 3];
+        self.drive(case, "loop", &turns, |_| keep(&(unknown(sheet), unknown(log))));
+        self.drive(case, "library", &turns, |_| keep(&library::events(unknown(sheet), 0, 0, unknown(log), &mut memory, &mut output)));
+        self.drive(case, "plain", &turns, |_| keep(&plain::events(unknown(sheet), 0, 0, unknown(log), &mut memory, &mut output)));
+        self.drive(case, "single", &turns, |_| keep(&single_calls(unknown(sheet), unknown(log), &mut memory, &mut output)));
+    }
+
     /// Making with an output of the given length; with none, all is read and checked and then refused 16.
     fn making(&mut self, case: &str, rule: &Rule, room: usize) {
         let file = monitor::layout(rule);
@@ -121,6 +139,19 @@ impl Bench {
         self.drive(case, "library", &turns, |_| keep(&library::find(unknown(job), unknown(office), number, age)));
         self.drive(case, "plain", &turns, |_| keep(&plain::find(unknown(job), unknown(office), number, age)));
     }
+}
+
+/// The library's single calls, each given the unwritten rest of the output.
+#[inline(never)]
+fn single_calls(sheet: &[u8], log: &[u8], memory: &mut [u8], output: &mut [u8]) -> Evening {
+    let (mut state, mut held, mut released) = (0, 0, 0);
+    for &event in log {
+        let a = library::event(sheet, state, held, event, memory, &mut output[released..]);
+        state = a.state;
+        held = a.held;
+        released += a.released;
+    }
+    Evening { refusal: 0, a: 0, b: 0, state, held, taken: log.len(), released }
 }
 
 // ---------------------------------------------------------------------------------------------- the cases
@@ -213,6 +244,12 @@ fn main() {
     bench.finding("a lookup, oldest of the job's book", &job, &office, 1, 1);
     bench.finding("a lookup, oldest of the office's book", &job, &office, 150, 1);
     bench.finding("a lookup, in neither book", &job, &office, 0, 0);
+    let day: Vec<u8> = days(&setups, 4096).iter().map(|step| step.event).collect();
+    let quiet: Vec<u8> = (0..4096).map(|i| if i % 9 == 8 { 2 } else { (i % 9 % 2) as u8 }).collect();
+    bench.evening("4,096 events, all dump", &setups, &[2; 4096]);
+    bench.evening("4,096 events, all store", &waiting, &[0; 4096]);
+    bench.evening("4,096 events, mostly after a halt", &setups, &day);
+    bench.evening("4,096 events, an evening of a crew", &setups, &quiet);
     for (name, rule) in [("random", by_chance()), ("chain", chain()), ("self-loops", self_loops())] {
         bench.making(&format!("reading, {}", name), &rule, 0);
         bench.making(&format!("making a sheet, {}", name), &rule, 2054);

@@ -5,8 +5,9 @@
 //! Rule files (sound and damaged), sheets (made and spoiled), run states, events and lent buffers all come from the
 //! seed, so a run can be repeated. Every answer and every byte of every buffer, guard bytes around it included, must
 //! be equal; each history on a made sheet is judged by the oracle; what the program `table` prints is compared where
-//! the environment variable PACHALLU_TABLE holds the shell words that start it. The run fails, too, where one of the
-//! refusals 1 to 9 and 11 to 18 and 26 was met fewer than 20 times.
+//! the environment variable PACHALLU_TABLE holds the shell words that start it. An evening of events in one call is
+//! compared with the second monitor and with the library's own single calls. The run fails, too, where one of the
+//! refusals 1 to 9, 11 to 18 and 26, or, of evenings, 19 and 11 to 16, was met fewer than 20 times.
 
 mod books;
 mod dice;
@@ -17,7 +18,7 @@ mod oracle;
 
 use dice::Dice;
 use draw::Lent;
-use library::{Answer, Made, Start};
+use library::{Answer, Evening, Made, Start};
 use monitor::{Pair, Refusal, Rule, Run};
 use oracle::History;
 use std::io::Write;
@@ -61,6 +62,11 @@ fn expected_answer(given: Run, answer: Result<monitor::Taken, Refusal>) -> Answe
         },
         Err(r) => Answer { refusal: r.no, a: r.a, b: r.b, operation: 0, state: given.state, held: given.held, released: 0 },
     }
+}
+
+fn expected_evening(e: monitor::Evening) -> Evening {
+    let r = e.refusal.unwrap_or(Refusal { no: 0, a: 0, b: 0 });
+    Evening { refusal: r.no, a: r.a, b: r.b, state: e.run.state, held: e.run.held, taken: e.taken, released: e.released }
 }
 
 // ---------------------------------------------------------------------------------------------- telling a difference
@@ -124,6 +130,10 @@ struct Counts {
     taken: [usize; 3],
     dumped_held: usize,
     event: [usize; 17],
+    /// Evenings by refusal; those refused after an event was taken; the longest that was taken whole.
+    evening: [usize; 20],
+    evening_late: usize,
+    evening_longest: usize,
     starts: [usize; 2],
     histories: usize,
     halted: usize,
@@ -149,7 +159,7 @@ struct Comparison {
 }
 
 impl Comparison {
-    // ------------------------------------------------------------------------------------------ the three calls
+    // ------------------------------------------------------------------------------------------ the calls
 
     fn make(&mut self, dice: &mut Dice, file: &[u8], room: usize) -> Result<(Made, Lent), String> {
         self.file = file.to_vec();
@@ -264,6 +274,61 @@ impl Comparison {
         Ok((library, output))
     }
 
+    /// An evening on both sides, and the same by single calls of the library. Gives the answer, the output and the operations of the single calls.
+    fn evening(
+        &mut self,
+        dice: &mut Dice,
+        sheet: &Lent,
+        run: Run,
+        log: &[u8],
+        memory: &mut Lent,
+        room: usize,
+    ) -> Result<(Evening, Lent, Vec<u8>), String> {
+        let before = memory.clone();
+        let lent = Lent::of(dice, log);
+        let (kept, kept_log) = (sheet.clone(), lent.clone());
+        let mut output = Lent::blank(dice, room);
+        let (mut twin, mut twin_output) = (memory.clone(), output.clone());
+        let (mut third, mut third_output) = (memory.clone(), output.clone());
+        let library = library::events(sheet.bytes(), run.state, run.held, lent.bytes(), memory.bytes_mut(), output.bytes_mut());
+        let second = expected_evening(monitor::events(sheet.bytes(), run, log, twin.bytes_mut(), twin_output.bytes_mut()));
+        let call = || {
+            format!(
+                "pachallu_events(sheet of {} bytes, state {}, held {}, log of {} events, memory of {} bytes, output of {} bytes)\n  log       {}",
+                sheet.bytes().len(),
+                run.state,
+                run.held,
+                log.len(),
+                before.bytes().len(),
+                room,
+                hex(log)
+            )
+        };
+        let around = |fault: String| fault + &situation(sheet, Some(&before));
+        if library != second {
+            return Err(around(differ(&call(), library, second)));
+        }
+        same_bytes(&call(), "memory", memory, &twin).map_err(around)?;
+        same_bytes(&call(), "output", &output, &twin_output).map_err(around)?;
+        untouched(&call(), "sheet", &kept, sheet).map_err(around)?;
+        untouched(&call(), "log", &kept_log, &lent).map_err(around)?;
+        let mut operations = Vec::new();
+        if !log.is_empty() && log.len() <= monitor::EVENING {
+            let singly = single_calls(sheet, run, log, &mut third, &mut third_output, &mut operations);
+            if library != singly {
+                return Err(around(differ(&format!("{}\n  and single calls", call()), library, singly)));
+            }
+            same_bytes(&call(), "memory (single calls)", memory, &third).map_err(around)?;
+            same_bytes(&call(), "output (single calls)", &output, &third_output).map_err(around)?;
+        }
+        self.counts.evening[second.refusal as usize] += 1;
+        self.counts.evening_late += (second.refusal != 0 && second.taken > 0) as usize;
+        if second.refusal == 0 {
+            self.counts.evening_longest = self.counts.evening_longest.max(second.taken);
+        }
+        Ok((library, output, operations))
+    }
+
     // ------------------------------------------------------------------------------------------ one rule file
 
     /// Makes sheets from the file with outputs of several lengths, then runs the sheet.
@@ -331,7 +396,7 @@ impl Comparison {
         };
         let mut memory = Lent::blank(dice, room);
         let mut told = History { taken: vec![], operations: vec![], released: vec![], held: vec![] };
-        let mut left = dice.below(100);
+        let mut left = dice.below(120);
         let holding = dice.one_in(2);
         while left > 0 {
             left -= 1;
@@ -352,6 +417,20 @@ impl Comparison {
                 2 | 3 => run.held + 1,
                 _ => run.held + 1 + dice.below(6),
             };
+            if dice.one_in(8) {
+                // some of the events in one call
+                let mut log: Vec<u8> = (0..dice.below(13)).map(|_| dice.below(rule.events) as u8).collect();
+                if dice.one_in(4) {
+                    log.push(e as u8);
+                }
+                let lent = dice.pick(&[0, run.held + 1, run.held + log.len(), run.held + log.len() + 3]);
+                let (evening, output, operations) = self.evening(dice, sheet, run, &log, &mut memory, lent)?;
+                told.taken.extend_from_slice(&log[..evening.taken]);
+                told.operations.extend_from_slice(&operations[..evening.taken]);
+                told.released.extend_from_slice(&output.bytes()[..evening.released]);
+                run = Run { state: evening.state, held: evening.held };
+                continue;
+            }
             if dice.one_in(4) {
                 // what lies past the held events is nobody's, and may change between two calls
                 let held = run.held;
@@ -410,6 +489,16 @@ impl Comparison {
                 run = Run { state: dice.below(n) as u8, held: dice.below(room + 1) };
             }
         }
+        // an evening from there, mostly of the rule's events: none, a few, as many as one call takes, more
+        let long = dice.pick(&[4095, 4096, 4096, 4097, 4098, 5000]);
+        let count = if dice.one_in(12) { long } else { dice.pick(&[0, 1, 2, 6, 20]) };
+        let most = if dice.one_in(3) { k + 1 } else { k };
+        let log: Vec<u8> = (0..count).map(|_| dice.below(most) as u8).collect();
+        let lent = dice.pick(&[0, 1, 4, run.held.min(room) + count, 4096 + room]);
+        if dice.one_in(8) {
+            run = Run { state: dice.pick(&[n, 255]) as u8, held: dice.below(room + 3) };
+        }
+        self.evening(dice, sheet, run, &log, &mut memory, lent)?;
         Ok(())
     }
 
@@ -473,6 +562,27 @@ fn run_program(words: &str, input: &[u8]) -> Result<Vec<u8>, String> {
         Some(code) => Err(format!("the program cannot be run (exit status {})", code)),
         None => Err(format!("the program was ended by a signal ({})", done.status)),
     }
+}
+
+/// The library's own single calls, each given the unwritten rest of the output, up to the first refusal.
+fn single_calls(sheet: &Lent, run: Run, log: &[u8], memory: &mut Lent, output: &mut Lent, operations: &mut Vec<u8>) -> Evening {
+    let mut evening = Evening { refusal: 0, a: 0, b: 0, state: run.state, held: run.held, taken: 0, released: 0 };
+    for &code in log {
+        let rest = &mut output.bytes_mut()[evening.released..];
+        let answer = library::event(sheet.bytes(), evening.state, evening.held, code, memory.bytes_mut(), rest);
+        if answer.refusal != 0 {
+            return Evening { refusal: answer.refusal, a: answer.a, b: answer.b, ..evening };
+        }
+        operations.push(answer.operation);
+        evening = Evening {
+            state: answer.state,
+            held: answer.held,
+            taken: evening.taken + 1,
+            released: evening.released + answer.released,
+            ..evening
+        };
+    }
+    evening
 }
 
 fn mark(lengths: &mut Vec<bool>, len: usize) {
@@ -690,6 +800,13 @@ fn report(c: &Counts) {
         gap(&c.memory_lengths),
         gap(&c.output_lengths)
     );
+    println!(
+        "evenings     {} taken whole, the longest of {} events; refused {}, {} of them after an event was taken",
+        c.evening[0],
+        c.evening_longest,
+        list(&c.evening, 1..=19),
+        c.evening_late
+    );
     println!("histories    {} judged by the definition of acceptance, {} of them with a halt", c.histories, c.halted);
 }
 
@@ -716,6 +833,14 @@ fn lacking(c: &Counts, printing: bool) -> Vec<String> {
             "refusal 16 was met {} times in making and {} times in events; at least {} of each are wanted",
             c.made[16], c.event[16], ENOUGH
         ));
+    }
+    for no in (11..=16).chain([19]) {
+        if c.evening[no] < ENOUGH {
+            faults.push(format!("an evening was refused {} {} times; at least {} are wanted", no, c.evening[no], ENOUGH));
+        }
+    }
+    if c.evening_late < ENOUGH || c.evening_longest < monitor::EVENING {
+        faults.push(format!("evenings refused after an event was taken, and one of {} events, are wanted", monitor::EVENING));
     }
     for class in 1..=4 {
         if c.sound[class] < ENOUGH {

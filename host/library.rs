@@ -43,6 +43,18 @@ pub struct Found {
     pub length: usize,
 }
 
+#[repr(C)]
+#[derive(Clone, Copy, PartialEq, Eq, Debug)]
+pub struct Evening {
+    pub refusal: u8,
+    pub a: u8,
+    pub b: u8,
+    pub state: u8,
+    pub held: usize,
+    pub taken: usize,
+    pub released: usize,
+}
+
 extern "C" {
     fn pachallu_make(rule: *const u8, rule_len: usize, sheet: *mut u8, sheet_len: usize) -> Made;
     fn pachallu_print(rule: *const u8, rule_len: usize, text: *mut u8, text_len: usize) -> Made;
@@ -68,6 +80,18 @@ extern "C" {
         output: *mut u8,
         output_len: usize,
     ) -> Answer;
+    fn pachallu_events(
+        sheet: *const u8,
+        sheet_len: usize,
+        state: u8,
+        held: usize,
+        log: *const u8,
+        log_len: usize,
+        memory: *mut u8,
+        memory_len: usize,
+        output: *mut u8,
+        output_len: usize,
+    ) -> Evening;
 }
 
 /// Where a buffer starts. NULL for an empty one where the program says so: C++ callers pass it (an empty vector's data()), and the header permits it.
@@ -123,6 +147,24 @@ pub fn event(sheet: &[u8], state: u8, held: usize, event: u8, memory: &mut [u8],
             state,
             held,
             event,
+            start_mut(memory),
+            memory.len(),
+            start_mut(output),
+            output.len(),
+        )
+    }
+}
+
+#[inline(always)]
+pub fn events(sheet: &[u8], state: u8, held: usize, log: &[u8], memory: &mut [u8], output: &mut [u8]) -> Evening {
+    unsafe {
+        pachallu_events(
+            start(sheet),
+            sheet.len(),
+            state,
+            held,
+            start(log),
+            log.len(),
             start_mut(memory),
             memory.len(),
             start_mut(output),

@@ -514,6 +514,49 @@ pub fn event(sheet: &[u8], run: Run, event: u8, memory: &mut [u8], output: &mut 
     }
 }
 
+/// The longest log that one call takes.
+pub const EVENING: usize = 4096;
+
+/// What came of a log: where the run stands after the events taken, how many these are, what they released, and the refusal that ended it.
+#[derive(Clone, PartialEq, Eq, Debug)]
+pub struct Evening {
+    pub run: Run,
+    pub taken: usize,
+    pub released: usize,
+    pub refusal: Option<Refusal>,
+}
+
+/// A log in one call (M-101): refusal 19, and then, as the paper says, the single calls, each with the part of the output that is not yet
+/// written. With no event at all it looks at what a call looks at before the event: refusals 11 and 12.
+pub fn events(sheet: &[u8], run: Run, log: &[u8], memory: &mut [u8], output: &mut [u8]) -> Evening {
+    let mut evening = Evening { run, taken: 0, released: 0, refusal: None };
+    if log.len() > EVENING {
+        evening.refusal = Some(Refusal { no: 19, a: 0, b: 0 });
+        return evening;
+    }
+    if log.is_empty() {
+        evening.refusal = match open(sheet) {
+            Err(refusal) => Some(refusal),
+            Ok(opened) if run.state as usize >= opened.states || run.held > memory.len() => Some(Refusal { no: 12, a: 0, b: 0 }),
+            Ok(_) => None,
+        };
+    }
+    for &code in log {
+        match event(sheet, evening.run, code, memory, &mut output[evening.released..]) {
+            Ok(taken) => {
+                evening.run = taken.run;
+                evening.taken += 1;
+                evening.released += taken.released;
+            }
+            Err(refusal) => {
+                evening.refusal = Some(refusal);
+                break;
+            }
+        }
+    }
+    evening
+}
+
 // ---------------------------------------------------------------------------------------------- the printed monitor
 
 /// What the program `table` prints for a rule file.

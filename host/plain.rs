@@ -1,9 +1,9 @@
 //! The library's calls in plain Rust with the same checks and the same answers: the other side of the benchmark.
 //!
-//! `read`, `make` and `event` are written as one would write them from the paper; `read_best` and `make_best` use the
+//! `read`, `make`, `event` and `events` are written as one would write them from the paper; `read_best` and `make_best` use the
 //! best algorithms we know. Sets of states are 64-bit numbers throughout.
 
-use crate::library::{Answer, Found, Made};
+use crate::library::{Answer, Evening, Found, Made};
 
 #[derive(Clone, Copy)]
 pub struct Refusal {
@@ -323,8 +323,8 @@ struct Taken {
     released: usize,
 }
 
-fn step(sheet: &[u8], state: u8, held: usize, event: u8, memory: &mut [u8], output: &mut [u8]) -> Checked<Taken> {
-    let sheet = open(sheet)?;
+#[inline(always)]
+fn step(sheet: &Sheet<'_>, state: u8, held: usize, event: u8, memory: &mut [u8], output: &mut [u8]) -> Checked<Taken> {
     if state >= sheet.n || held > memory.len() {
         return refused(12, 0, 0);
     }
@@ -359,7 +359,7 @@ fn step(sheet: &[u8], state: u8, held: usize, event: u8, memory: &mut [u8], outp
 
 #[inline(never)]
 pub fn event(sheet: &[u8], state: u8, held: usize, event: u8, memory: &mut [u8], output: &mut [u8]) -> Answer {
-    match step(sheet, state, held, event, memory, output) {
+    match open(sheet).and_then(|sheet| step(&sheet, state, held, event, memory, output)) {
         Ok(t) => Answer { refusal: 0, a: 0, b: 0, operation: t.operation, state: t.state, held: t.held, released: t.released },
         Err(r) => Answer { refusal: r.no, a: r.a, b: r.b, operation: 0, state, held, released: 0 },
     }
@@ -414,4 +414,34 @@ pub fn find(job: &[u8], office: &[u8], number: u8, age: u16) -> Found {
         }
     }
     refused(18, 0)
+}
+
+// ---------------------------------------------------------------------------------------------- an evening
+
+/// Opens the sheet once and takes the events one after another.
+#[inline(never)]
+pub fn events(sheet: &[u8], state: u8, held: usize, log: &[u8], memory: &mut [u8], output: &mut [u8]) -> Evening {
+    let ended = |r: Refusal, state: u8, held: usize, taken: usize, released: usize| Evening { refusal: r.no, a: r.a, b: r.b, state, held, taken, released };
+    if log.len() > 4096 {
+        return ended(Refusal { no: 19, a: 0, b: 0 }, state, held, 0, 0);
+    }
+    let sheet = match open(sheet) {
+        Ok(sheet) => sheet,
+        Err(r) => return ended(r, state, held, 0, 0),
+    };
+    if state >= sheet.n || held > memory.len() {
+        return ended(Refusal { no: 12, a: 0, b: 0 }, state, held, 0, 0);
+    }
+    let (mut state, mut held, mut released) = (state, held, 0);
+    for (taken, &event) in log.iter().enumerate() {
+        match step(&sheet, state, held, event, memory, &mut output[released..]) {
+            Ok(t) => {
+                state = t.state;
+                held = t.held;
+                released += t.released;
+            }
+            Err(r) => return ended(r, state, held, taken, released),
+        }
+    }
+    Evening { refusal: 0, a: 0, b: 0, state, held, taken: log.len(), released }
 }

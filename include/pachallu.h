@@ -23,6 +23,9 @@
  *         state = a.state;
  *         held = a.held;
  *
+ * pachallu_events takes up to 4,096 events in one call: what it does to the run, the memory and the output is what single calls of
+ * pachallu_event do, one after another, each given the unwritten rest of the output. A halt does not end it; the first refused event does.
+ *
  * THE RUN STATE is the two numbers `state` and `held`, and the first `held` bytes of the memory. The library keeps nothing
  * between calls: carry the two numbers from each answer into the next call, with the same sheet and the same memory, and leave
  * the held bytes alone. The memory's other bytes are yours between calls. Several runs may share one sheet; each has its own
@@ -56,6 +59,9 @@
  * refused event returns the state and held that it was given, with operation 0 and released 0: look at `refusal` before
  * `operation`. A refused event is not taken: the same or another one may be offered next, for instance with a longer output.
  * `a` and `b` are the two places of the table below, 0 where none is named.
+ * pachallu_events keeps what came before the event that was refused: its state, held, taken and released, the memory and the output
+ * are those that the events taken left, and the refused event, log[taken], changed nothing. With refusal 19, or for an empty log, nothing
+ * was taken: the answer has the state and held that were given, and no byte changed.
  *
  *     no.  given when                                                                        a, b
  *      1   rule file under 12 or over 3,212 bytes, or its last two bytes are not 72, 82
@@ -81,9 +87,11 @@
  *          longer than the book, an entry's second byte is not 0, or the rules, in the       0 for the book of pachallu_add
  *          order of the entries, do not exactly fill the book up to the directory
  *     18   neither book has the number, or the book that is used has no such age
+ *     19   the log is over 4,096 events
  *     26   the book has 1,024 entries already
  *
- * pachallu_make gives 1 to 10, then 16; pachallu_fresh gives 11; pachallu_event gives 11 to 16; always the first that holds.
+ * pachallu_make gives 1 to 10, then 16; pachallu_fresh gives 11; pachallu_event gives 11 to 16;
+ * pachallu_events gives 19, then 11 and 12 (of an empty log too), then 13 to 16 of each event in turn; always the first that holds.
  * pachallu_find gives 17, then 18; pachallu_add gives 17, 1 to 10, 26, then 16, in this order.
  * pachallu_print tells 1 to 10 in its text, and gives 16. pachallu_refusal_text puts a number into words.
  *
@@ -114,6 +122,9 @@ extern "C" {
 #define PACHALLU_BOOK_RULES_MAX 1024
 #define PACHALLU_BOOK_MAX 67116034
 
+/* The longest log of pachallu_events. */
+#define PACHALLU_LOG_MAX 4096
+
 /* pachallu_answer.operation */
 #define PACHALLU_HALT 0
 #define PACHALLU_STORE 1
@@ -140,6 +151,15 @@ typedef struct {
     size_t held;
     size_t released;   /* bytes at the front of the output: held as given + 1 for a dump, else 0 */
 } pachallu_answer;
+
+typedef struct {
+    uint8_t refusal; /* 0: all taken; else that of the first event that was refused, log[taken], or 19, or 11 or 12 */
+    uint8_t a, b;    /* places of a refusal */
+    uint8_t state;   /* the run state after the events taken, for the next call */
+    size_t held;
+    size_t taken;    /* events taken, from the front of the log */
+    size_t released; /* bytes at the front of the output */
+} pachallu_evening;
 
 /* Makes the sheet of a rule file. PACHALLU_SHEET_MAX bytes of room are always enough. */
 pachallu_made pachallu_make(const uint8_t *rule, size_t rule_len, uint8_t *sheet, size_t sheet_len);
@@ -170,6 +190,10 @@ pachallu_found pachallu_find(const uint8_t *job, size_t job_len, const uint8_t *
 pachallu_made pachallu_add(const uint8_t *book, size_t book_len, uint8_t number, const uint8_t *rule, size_t rule_len,
                            uint8_t *out, size_t out_len);
 
+/* Takes up to PACHALLU_LOG_MAX events, each release right after the one before. An output of held + log_len bytes is always enough. */
+pachallu_evening pachallu_events(const uint8_t *sheet, size_t sheet_len, uint8_t state, size_t held, const uint8_t *log, size_t log_len,
+                                 uint8_t *memory, size_t memory_len, uint8_t *output, size_t output_len);
+
 /* Prints a rule file's monitor, or its refusal, as the program table does. 16 where the text does not fit; PACHALLU_TEXT_MAX bytes are always enough. */
 pachallu_made pachallu_print(const uint8_t *rule, size_t rule_len, uint8_t *text, size_t text_len);
 
@@ -196,7 +220,8 @@ static inline const char *pachallu_refusal_text(uint8_t refusal) {
         "this is no rule book: its count, its directory or its rules' lengths are wrong (A 0: the job's or the one added to, 1: the "
         "office's)",
         "neither book has a rule of this number, or the one that is used has none of this age",
-        0, 0, 0, 0, 0, 0, 0, /* 19 to 25 */
+        "the log is over 4,096 events",
+        0, 0, 0, 0, 0, 0, /* 20 to 25 */
         "the rule book has 1,024 rules already",
     };
     const char *text = refusal < sizeof texts / sizeof texts[0] ? texts[refusal] : 0;

@@ -33,8 +33,9 @@ use Rattle.effects.specs.declared.Turn.the-variants.{Move}
 use Rattle.rule.specs.declared.Operation.the-variants.{Halt}
 use Rattle.monitor.specs.Fresh.{startOf}
 use Rattle.monitor.specs.Event.{EventPromise}
+use Rattle.monitor.specs.Evening.{EveningPromise}
 use Rattle.printed.specs.Printing.{PrintPromise}
-use Rattle.pachallu.specs.Told.{MakeForC, PrintForC, FindForC, AddForC, FreshForC, EventForC}
+use Rattle.pachallu.specs.Told.{MakeForC, PrintForC, FindForC, AddForC, FreshForC, EventForC, EveningForC}
 use Rattle.rulefile.proofs as rulefile
 use Rattle.reading.proofs as reading
 use Rattle.writing.proofs as writing
@@ -76,7 +77,8 @@ look-keeps κs a x = x .told
 pub find-keeps : Keeps book.find.ended book.find.Reads.Learnt λ κs a r l. FindPromise (a .0) (a .1 .0) (a .1 .1 .0) (a .1 .1 .1 .0) r
 find-keeps κs a x = x .told
 
-pub add-keeps : Keeps book.add.ended book.add.Reads.Learnt λ κs a r l. AddPromise (now (a .0)) (a .1 .0) (now (a .1 .1 .0)) (now (a .1 .1 .1 .0)) r (l .1 .1 .1 .0)
+pub add-keeps : Keeps book.add.ended book.add.Reads.Learnt λ κs a r l.
+    AddPromise (now (a .0)) (a .1 .0) (now (a .1 .1 .0)) (now (a .1 .1 .1 .0)) r (l .1 .1 .1 .0)
 add-keeps κs a x = x .told
 
 -- the sheet: made, opened
@@ -87,7 +89,7 @@ make-keeps κs a x = x .told
 pub open-keeps : Keeps sheet.open.ended sheet.open.Reads.Learnt λ κs a r l. r ≡ openedOf (now (a .0))
 open-keeps κs a x = x .told
 
--- the run: a fresh start, one event, and its operations
+-- the run: a fresh start, one event, an evening of them, and an event's operations
 
 pub fresh-keeps : Keeps monitor.fresh.ended monitor.fresh.Reads.Learnt λ κs a r l. r ≡ startOf (now (a .0))
 fresh-keeps κs a x = x .told
@@ -95,6 +97,10 @@ fresh-keeps κs a x = x .told
 pub event-keeps : Keeps monitor.event.ended monitor.event.Reads.Learnt λ κs a r l.
     EventPromise (now (a .0)) (a .1 .0) (a .1 .1 .0) (now (a .1 .1 .1 .0)) (now (a .1 .1 .1 .1 .0)) r (l .1 .1 .1 .0) (l .1 .1 .1 .1 .0)
 event-keeps κs a x = x .told
+
+pub events-keeps : Keeps monitor.events.ended monitor.events.Reads.Learnt λ κs a r l.
+    EveningPromise (now (a .0)) (a .1 .0) (now (a .1 .1 .0)) (now (a .1 .1 .1 .0)) (now (a .1 .1 .1 .1 .0)) r (l .1 .1 .1 .0) (l .1 .1 .1 .1 .0)
+events-keeps κs a x = x .told
 
 pub Run-new-keeps : Keeps effects.Run.new.ended effects.Run.new.Reads.Learnt λ κs a r l. r ≡ freshRun (a .0)
 Run-new-keeps κs a x = x .told
@@ -124,10 +130,12 @@ pub pachallu-print-keeps : Keeps pachallu.pachallu_print.ended pachallu.pachallu
     PrintForC (now (a .0)) (now (a .1 .0)) r (l .1 .0)
 pachallu-print-keeps κs a x = x .told
 
-pub pachallu-find-keeps : Keeps pachallu.pachallu_find.ended pachallu.pachallu_find.Reads.Learnt λ κs a r l. FindForC (now (a .0)) (now (a .1 .0)) (a .1 .1 .0) (a .1 .1 .1 .0) r
+pub pachallu-find-keeps : Keeps pachallu.pachallu_find.ended pachallu.pachallu_find.Reads.Learnt λ κs a r l.
+    FindForC (now (a .0)) (now (a .1 .0)) (a .1 .1 .0) (a .1 .1 .1 .0) r
 pachallu-find-keeps κs a x = x .told
 
-pub pachallu-add-keeps : Keeps pachallu.pachallu_add.ended pachallu.pachallu_add.Reads.Learnt λ κs a r l. AddForC (now (a .0)) (a .1 .0) (now (a .1 .1 .0)) (now (a .1 .1 .1 .0)) r (l .1 .1 .1 .0)
+pub pachallu-add-keeps : Keeps pachallu.pachallu_add.ended pachallu.pachallu_add.Reads.Learnt λ κs a r l.
+    AddForC (now (a .0)) (a .1 .0) (now (a .1 .1 .0)) (now (a .1 .1 .1 .0)) r (l .1 .1 .1 .0)
 pachallu-add-keeps κs a x = x .told
 
 pub pachallu-fresh-keeps : Keeps pachallu.pachallu_fresh.ended pachallu.pachallu_fresh.Reads.Learnt λ κs a r l. FreshForC (now (a .0)) r
@@ -137,6 +145,11 @@ pub pachallu-event-keeps : Keeps pachallu.pachallu_event.ended pachallu.pachallu
     EventForC (now (a .0)) (a .1 .0) (a .1 .1 .0) (a .1 .1 .1 .0) (now (a .1 .1 .1 .1 .0)) (now (a .1 .1 .1 .1 .1 .0)) r (l .1 .1 .1 .1 .0)
     (l .1 .1 .1 .1 .1 .0)
 pachallu-event-keeps κs a x = x .told
+
+pub pachallu-events-keeps : Keeps pachallu.pachallu_events.ended pachallu.pachallu_events.Reads.Learnt λ κs a r l.
+    EveningForC (now (a .0)) (a .1 .0) (a .1 .1 .0) (now (a .1 .1 .1 .0)) (now (a .1 .1 .1 .1 .0)) (now (a .1 .1 .1 .1 .1 .0)) r
+    (l .1 .1 .1 .1 .0) (l .1 .1 .1 .1 .1 .0)
+pachallu-events-keeps κs a x = x .told
 
 -- the checks that they are built of
 

@@ -28,6 +28,7 @@ use Rattle.effects.specs.declared.Answer.the-variants.{Taken, Refused}
 use Rattle.history.specs.Course.{Entry}
 use Rattle.history.specs.History.{History, fresh, call, others}
 use Rattle.history.proofs.HistoryLaws.{mark-back}
+use Rattle.history.proofs.EveningLaws.{evening-history}
 use Rattle.pachallu.specs.Told.{madeOf, startedOf, answeredOf, runOf}
 use Rattle.pachallu.specs.declared.Made.{Made as CMade}
 use Rattle.pachallu.specs.declared.Started.{Started}
@@ -74,4 +75,5 @@ c-history {sheet} (c.fresh r memory p z) = by (openedOf sheet) refl p
     by (Sheet h) q t = rw t (fresh (runOf (h .initial .0) 0) memory (rw q))
     by Shut q t = let e : r .refusal ≡ 11 = ap (λ (s : Started). s .refusal) t in absurd (omega (arith, e, z))
 c-history (c.call h e output r memory′ output′ p) = rw (p .told) (c-call (c-history h) e output memory′ output′ (p .answer) (p .promise))
+c-history (c.evening h es output r memory′ output′ p) = rw (p .told) (evening-history (c-history h) es output (p .answer) memory′ output′ (p .promise))
 c-history (c.others h memory′ l t) = others (c-history h) memory′ l t

@@ -5,6 +5,8 @@
 -- exactly one answer, with one content of each lent slice; how it ends (`Ends`, crate rule, specs/Given): it tells 0 where no row of the call's table holds,
 -- else the number and the places of the first row that does, in the call's order of checking; and what a refused call leaves.
 -- A refused event's answer has no run state: the caller keeps its own. From C it is told back.
+-- An evening ends at its first refused event. There the demand, and the rule that a refusal changes nothing, hold of that event, not of those taken before it:
+-- what it leaves is what these left (`EveningKept`, crate monitor, specs/Given).
 -- Assumes nothing: this is a statement. proofs/Demand1 proves it.
 use Prim.Native.Nat.{ℕ}
 use mathlib.Core.Path.{_≡_}
@@ -41,14 +43,18 @@ use Rattle.effects.specs.declared.Run.{Run}
 use Rattle.effects.specs.declared.Answer.{Answer}
 use Rattle.monitor.specs.Fresh.{startOf}
 use Rattle.monitor.specs.Event.{EventPromise}
-use Rattle.monitor.specs.Given.{FreshRow, freshOrder, EventRow, eventOrder}
+use Rattle.monitor.specs.Evening.{EveningPromise}
+use Rattle.monitor.specs.Given.{FreshRow, freshOrder, EventRow, eventOrder, EveningRow, eveningOrder, EveningKept}
+use Rattle.monitor.specs.declared.Evening.{Evening}
 use Rattle.printed.specs.Printing.{PrintPromise, Printing, printingOrder}
 use Rattle.pachallu.specs.Told.{MakeForC, PrintForC, AddForC, FindForC, FreshForC, EventForC, runOf}
 use Rattle.pachallu.specs.Told.{madeTold, foundTold, startedTold, answeredTold, PutKept, FindKept, FreshKept, EventKept}
+use Rattle.pachallu.specs.Told.{EveningForC, eveningTold, EveningKeptForC}
 use Rattle.pachallu.specs.declared.Made.{Made}
 use Rattle.pachallu.specs.declared.Found.{Found}
 use Rattle.pachallu.specs.declared.Started.{Started}
 use Rattle.pachallu.specs.declared.Answered.{Answered}
+use Rattle.pachallu.specs.declared.Evening.{Evening as EveningTold}
 
 pub record Demand1 : Type 0 where
   -- a rule file, looked at and read: 1 to 10; refused, 0 in every place
@@ -80,7 +86,12 @@ pub record Demand1 : Type 0 where
   pub event : (sheet : List ℕ) (run : Run) (e : EventNo) (memory output : List ℕ) (r : Answer) (memory′ output′ : List ℕ)
       → EventPromise sheet run e memory output r memory′ output′
       → Ends (EventRow sheet run e (length memory) (length output)) eventOrder (answerTold r) ((memory′ ≡ memory) × (output′ ≡ output))
-  -- its operations alone: a store 15, a dump 16; refused, the memory, or the output, as it was
+  -- an evening of events: 19; then, with no event, 11 and 12, else the numbers of the first event that is refused; refused, what came before it is kept
+  pub one-evening : (sheet : List ℕ) (run : Run) (log memory output : List ℕ) → OneAnswer (EveningPromise sheet run log memory output)
+  pub evening : (sheet : List ℕ) (run : Run) (log memory output : List ℕ) (r : Evening) (memory′ output′ : List ℕ)
+      → EveningPromise sheet run log memory output r memory′ output′
+      → Ends (EveningRow sheet run log memory output) eveningOrder (verdictTold (r .verdict)) (EveningKept sheet run log memory output r memory′ output′)
+  -- an event's operations alone: a store 15, a dump 16; refused, the memory, or the output, as it was
   pub store : (next : StateNo) (run : Run) (e : EventNo) (memory : List ℕ) (r : Answer) (memory′ : List ℕ) → StorePromise next run e memory r memory′
       → Ends (StoreTable (run .held) (length memory)) storeOrder (answerTold r) (memory′ ≡ memory)
   pub dump : (next : StateNo) (held : List ℕ) (e : EventNo) (output : List ℕ) (r : Answer) (output′ : List ℕ) → DumpPromise next held e output r output′
@@ -89,7 +100,8 @@ pub record Demand1 : Type 0 where
   pub one-print : (f out : List ℕ) → OneWritten (PrintPromise f out)
   pub print : (f out : List ℕ) (w : Written) (out′ : List ℕ) → PrintPromise f out w out′
       → Ends (Printing f (length out)) printingOrder (writtenTold w) (out′ ≡ out)
-  -- from C the same calls, told in numbers; refused, every buffer and the run state that was given are as they were
+  -- from C the same calls, told in numbers; refused, every buffer and the run state that was given are as they were, or,
+  -- of an evening, as the events that it took left them
   pub c-make : (rule out : List ℕ) (r : Made) (out′ : List ℕ) → MakeForC rule out r out′
       → Ends (Making rule (length out)) makingOrder (madeTold r) (PutKept out r out′)
   pub c-print : (rule out : List ℕ) (r : Made) (out′ : List ℕ) → PrintForC rule out r out′
@@ -103,6 +115,10 @@ pub record Demand1 : Type 0 where
       → EventForC sheet state held event memory output r memory′ output′
       → Ends (EventRow sheet (runOf state held) (eventNo event) (length memory) (length output)) eventOrder (answeredTold r)
       (EventKept state held memory output r memory′ output′)
+  pub c-evening : (sheet : List ℕ) (state held : ℕ) (log memory output : List ℕ) (r : EveningTold) (memory′ output′ : List ℕ)
+      → EveningForC sheet state held log memory output r memory′ output′
+      → Ends (EveningRow sheet (runOf state held) log memory output) eveningOrder (eveningTold r)
+      (EveningKeptForC sheet state held log memory output r memory′ output′)
   -- the checks alone, of a shape, a trailer, and a table with its pairs, give no other number than these
   pub shape : (s : Shape) (x : Refusal) → firstOf (shapeConditions s) ≡ Unsound x → Numbered shapeOrder x
   pub head : (t : Trailer) (size : ℕ) (x : Refusal) → firstOf (headConditions t size) ≡ Unsound x → Numbered headOrder x

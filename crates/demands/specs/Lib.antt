@@ -2,6 +2,8 @@
 pub mod Demand1
 pub mod Demand2
 pub mod Demand3
+-- M-101: an evening of events in one call
+pub mod Evening
 -- what they speak of: a sheet made by this build, and the calls of a C program
 pub mod Made
 pub mod FromC

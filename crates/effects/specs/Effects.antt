@@ -93,9 +93,9 @@ abbrev pub DumpTable : (held space : ℕ) → Table
 DumpTable held space = After NoRows 16 Room (space < held + 1)
 
 -- exactly one answer, with exactly one content of the memory and the output, keeps the promise
-pub record OneAnswer (Promise : Answer → List ℕ → List ℕ → Type 0) : Type 0 where
-  pub answer : Answer
+pub record OneAnswer {A : Type 0} (Promise : A → List ℕ → List ℕ → Type 0) : Type 0 where
+  pub answer : A
   pub memory : List ℕ
   pub output : List ℕ
   pub kept : Promise answer memory output
-  pub only : (r : Answer) (m out : List ℕ) → Promise r m out → (r ≡ answer) × (m ≡ memory) × (out ≡ output)
+  pub only : (r : A) (m out : List ℕ) → Promise r m out → (r ≡ answer) × (m ≡ memory) × (out ≡ output)

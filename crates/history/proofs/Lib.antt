@@ -1,2 +1,3 @@
 pub mod CourseLaws
 pub mod HistoryLaws
+pub mod EveningLaws

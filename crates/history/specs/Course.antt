@@ -9,16 +9,8 @@ use Rattle.rule.specs.Acceptance.{Hopeless}
 use Rattle.rule.specs.Machine.{Machine, acceptsBy}
 use Rattle.rule.specs.declared.Operation.{Operation}
 use Rattle.rule.specs.declared.Operation.the-variants.{Halt, Store, Dump}
-
--- an event that was taken: its code, and the operation that it was answered
-pub record Entry : Type 0 where
-  pub code : ℕ
-  pub operation : Operation
-
--- the codes of a log
-abbrev pub codes : List Entry → List ℕ
-codes [] = []
-codes (x ∷ xs) = x .code ∷ codes xs
+-- an event that was taken, and the codes of a log
+pub use Rattle.monitor.specs.Evening.{Entry, codes}
 
 -- the codes taken before the first halt
 abbrev pub untilHalt : Operation → ℕ → List ℕ → List ℕ

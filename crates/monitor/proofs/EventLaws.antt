@@ -23,7 +23,7 @@ use Rattle.sheet.specs.declared.Head.{Head}
 use Rattle.sheet.specs.declared.Opened.{Opened}
 use Rattle.sheet.specs.declared.Opened.the-variants.{Sheet, Refused as Shut}
 use Rattle.sheet.specs.Layout.{operationOf}
-use Rattle.monitor.specs.Event.{cellTurn, cellAt, lookOf, StepPromise, EventPromise}
+use Rattle.monitor.specs.Event.{cellTurn, cellAt, unfit, lookOf, StepPromise, EventPromise}
 use Rattle.effects.specs.Effects.{roomTurn, answerIn, memoryIn, outputIn, TurnPromise, StorePromise, DumpPromise}
 use Rattle.effects.specs.declared.Run.{Run}
 use Rattle.effects.specs.declared.Turn.{Turn}
@@ -56,26 +56,29 @@ left-false : (a b : Bool) → (a || b) ≡ false → a ≡ false
 left-false true b p = p
 left-false false b p = refl
 
-module _ (h : Head) (sheet : List ℕ) (run : Run) (e : EventNo) (room : ℕ) where
-  pub run-12 : (leb (h .states) (run .state .0) || ltb room (run .held)) ≡ true → Refused BadRun ≡ lookOf h sheet run e room
+module _ (h : Head) (sheet : List ℕ) (run : Run) (e : EventNo) (room : ℕ) {b : Bool} (is : b ≡ unfit h run room) where
+  pub run-12 : b ≡ true → Refused BadRun ≡ lookOf h sheet run e room
   unfolding lookOf
-  run-12 p = rw p
+  run-12 p = rw (sym is ∙ p)
 
-  module _ (fits : (leb (h .states) (run .state .0) || ltb room (run .held)) ≡ false) where
+  module _ (fits : b ≡ false) where
+    abbrev fit : unfit h run room ≡ false
+    fit = sym is ∙ fits
+
     pub state-fits : run .state .0 < h .states
-    state-fits = leb-false _ _ (left-false (leb (h .states) (run .state .0)) (ltb room (run .held)) fits)
+    state-fits = leb-false _ _ (left-false (leb (h .states) (run .state .0)) (ltb room (run .held)) fit)
 
     pub cell-inside : {i : ℕ} → i ≡ placeOf (h .events) (run .state .0) (e .0) → Sheet h ≡ openedOf sheet → e .0 < h .events → i < length sheet
     cell-inside q o a = rw q (place-inside sheet h o (run .state .0) state-fits (e .0) a)
 
     pub code-13 : h .events ≤ e .0 → Refused Code ≡ lookOf h sheet run e room
     unfolding lookOf
-    code-13 a = rw (fits, le-leb _ _ a)
+    code-13 a = rw (fit, le-leb _ _ a)
 
     -- with none of these it is what the cell says
     pub code-fits : {t : Turn} → e .0 < h .events → t ≡ cellTurn (cellAt h sheet run e) (h .states) run e → t ≡ lookOf h sheet run e room
     unfolding lookOf
-    code-fits a p = p ∙ rw (fits, lt-leb _ _ a)
+    code-fits a p = p ∙ rw (fit, lt-leb _ _ a)
 
     -- the cell read at its place
     pub place-fits : {t : Turn} {i : ℕ} → i ≡ placeOf (h .events) (run .state .0) (e .0) → e .0 < h .events

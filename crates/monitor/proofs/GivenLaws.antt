@@ -8,7 +8,7 @@ use mathlib.Core.List.{List, [], _∷_}
 use mathlib.Core.Logic.{_⊎_, inl, inr, ⊎-elim, _↔_, Iff·trans}
 use lib.ListN.{length}
 use lib.Dec.{leb, ltb, eqb}
-use Rattle.rule.specs.Refusals.{Numbered, refuseIf}
+use Rattle.rule.specs.Refusals.{Numbered, among, refuseIf, orElse}
 use Rattle.rule.specs.Given.{Table, NoRow, Given, done, refused, Ends}
 use Rattle.rule.specs.declared.StateNo.{StateNo}
 use Rattle.rule.specs.declared.EventNo.{EventNo}
@@ -18,7 +18,7 @@ use Rattle.rule.specs.declared.Refusal.{Refusal}
 use Rattle.rule.specs.declared.Refusal.the-variants.{Sheet as NoSheet, Run as BadRun, Code, Cell, Memory, Room}
 use Rattle.rule.specs.declared.Verdict.{Verdict}
 use Rattle.rule.specs.declared.Verdict.the-variants.{Sound, Refused as Unsound}
-use Rattle.rule.proofs.BoolLaws.{Says, eq-says, le-says, lt-says, and-says, or-says}
+use Rattle.rule.proofs.BoolLaws.{Says, clash, eq-says, le-says, lt-says, and-says, or-says}
 use Rattle.rule.proofs.RefusalLaws.{not-both}
 use Rattle.rule.proofs.TableLaws.{Within, Decides, Answers, decided, end, then, sound-exactly, numbers}
 use Rattle.sheet.specs.Given.{BadSheet}
@@ -31,9 +31,10 @@ use Rattle.effects.specs.declared.Run.{Run}
 use Rattle.effects.specs.declared.Turn.{Turn}
 use Rattle.effects.specs.declared.Turn.the-variants.{Move, Refused}
 use Rattle.effects.specs.declared.Answer.{Answer}
-use Rattle.monitor.specs.Event.{cellTurn, lookOf, turnBy, turnOf, EventPromise}
-use Rattle.monitor.specs.Given.{cellRead, operationRead, nextRead, eventOrder, bad-sheet, EventRow, opening, state-past, held-past, event-past}
-use Rattle.monitor.specs.Given.{operation-3, next-past, memory-full, output-short}
+use Rattle.monitor.specs.Event.{unfit, cellTurn, lookOf, turnBy, turnOf, EventPromise}
+use Rattle.monitor.specs.Evening.{standsBy}
+use Rattle.monitor.specs.Given.{cellRead, operationRead, nextRead, bad-sheet, standOrder, StandRow, opening, state-past, held-past}
+use Rattle.monitor.specs.Given.{eventOrder, EventRow, standing, event-past, operation-3, next-past, memory-full, output-short}
 
 -- what a turn refuses
 abbrev saying : Turn → Verdict
@@ -78,14 +79,51 @@ dump-says Halt = (λ p. cc, λ p. cc)
 dump-says Store = (λ p. cc, λ p. cc)
 dump-says Dump = (λ p. refl, λ p. refl)
 
+-- a run on a sheet: 11 and 12
+module _ {sheet : List ℕ} {run : Run} {room : ℕ} where
+  stand-11 : (y : Refusal) → StandRow sheet run room 11 y → (NoSheet ≡ y) × BadSheet sheet
+  stand-11 y (opening (bad-sheet a)) = (refl, a)
+
+  stand-12 : (y : Refusal) → StandRow sheet run room 12 y → (BadRun ≡ y) × ((headIn sheet .states ≤ run .state .0) ⊎ (room < run .held))
+  stand-12 y (state-past a) = (refl, inl a)
+  stand-12 y (held-past a) = (refl, inr a)
+
+  past : (headIn sheet .states ≤ run .state .0) ⊎ (room < run .held) → StandRow sheet run room 12 BadRun
+  past = ⊎-elim state-past held-past
+
+pub stand-within : (sheet : List ℕ) (run : Run) (room : ℕ) → Within standOrder (StandRow sheet run room)
+stand-within sheet run room n x (opening (bad-sheet a)) = record { number = refl; listed = refl }
+stand-within sheet run room n x (state-past a) = record { number = refl; listed = refl }
+stand-within sheet run room n x (held-past a) = record { number = refl; listed = refl }
+
+past-stand : {sheet : List ℕ} {run : Run} {room n : ℕ} {x : Refusal} {A : Type 0} → StandRow sheet run room n x → among n standOrder ≡ false → A
+past-stand r q = clash (stand-within _ _ _ _ _ r .listed) q
+
+pub stand-rows : (sheet : List ℕ) (run : Run) (room : ℕ) → Answers (StandRow sheet run room) standOrder (standsBy (openedOf sheet) run room)
+unfolding openedOf
+stand-rows sheet run room =
+    rw (by (opens sheet))
+    (then (refuseIf (not (opens sheet)) NoSheet) (decided (StandRow sheet run room) 11 (shut-says sheet) (λ a. opening (bad-sheet a)) stand-11)
+    (λ _. then (refuseIf (unfit (headIn sheet) run room) BadRun)
+    (decided (StandRow sheet run room) 12 (or-says (le-says (headIn sheet .states) (run .state .0)) (lt-says room (run .held))) past stand-12) (λ _. end)))
+  where
+    by : (a : Bool) → standsBy (cond a (Sheet (headIn sheet)) Shut) run room
+        ≡ orElse (refuseIf (not a) NoSheet) (orElse (refuseIf (unfit (headIn sheet) run room) BadRun) Sound)
+    by true = fine (unfit (headIn sheet) run room)
+      where
+        fine : (b : Bool) → refuseIf b BadRun ≡ orElse (refuseIf b BadRun) Sound
+        fine true = refl
+        fine false = refl
+    by false = refl
+
 module _ (sheet : List ℕ) (run : Run) (e : EventNo) (memory output : List ℕ) where
   abbrev T : Table
   T = EventRow sheet run e (length memory) (length output)
 
-  event-within : Within eventOrder T
-  event-within n x (opening (bad-sheet a)) = record { number = refl; listed = refl }
-  event-within n x (state-past a) = record { number = refl; listed = refl }
-  event-within n x (held-past a) = record { number = refl; listed = refl }
+  pub event-within : Within eventOrder T
+  event-within n x (standing (opening (bad-sheet a))) = record { number = refl; listed = refl }
+  event-within n x (standing (state-past a)) = record { number = refl; listed = refl }
+  event-within n x (standing (held-past a)) = record { number = refl; listed = refl }
   event-within n x (event-past a) = record { number = refl; listed = refl }
   event-within n x (operation-3 a) = record { number = refl; listed = refl }
   event-within n x (next-past a) = record { number = refl; listed = refl }
@@ -137,30 +175,33 @@ module _ (sheet : List ℕ) (run : Run) (e : EventNo) (memory output : List ℕ)
       by false = refl
 
   by-11 : (y : Refusal) → T 11 y → (NoSheet ≡ y) × BadSheet sheet
-  by-11 y (opening (bad-sheet a)) = (refl, a)
+  by-11 y (standing r) = stand-11 y r
 
   by-12 : (y : Refusal) → T 12 y → (BadRun ≡ y) × ((N ≤ run .state .0) ⊎ (length memory < run .held))
-  by-12 y (state-past a) = (refl, inl a)
-  by-12 y (held-past a) = (refl, inr a)
+  by-12 y (standing r) = stand-12 y r
 
   by-13 : (y : Refusal) → T 13 y → (Code ≡ y) × (headIn sheet .events ≤ e .0)
+  by-13 y (standing r) = past-stand r refl
   by-13 y (event-past a) = (refl, a)
 
   by-14 : (y : Refusal) → T 14 y → (Cell (run .state) e ≡ y) × ((cell / 64 ≡ 3) ⊎ (N ≤ cell % 64))
+  by-14 y (standing r) = past-stand r refl
   by-14 y (operation-3 a) = (refl, inl a)
   by-14 y (next-past a) = (refl, inr a)
 
   by-15 : (y : Refusal) → T 15 y → (Memory ≡ y) × ((o ≡ Store) × (length memory ≤ run .held))
+  by-15 y (standing r) = past-stand r refl
   by-15 y (memory-full q a) = (refl, (q, a))
 
   by-16 : (y : Refusal) → T 16 y → (Room ≡ y) × ((o ≡ Dump) × (length output ≤ run .held))
+  by-16 y (standing r) = past-stand r refl
   by-16 y (output-short q a) = (refl, (q, omega arith))
 
   turns : Turns T eventOrder o (nextRead sheet run e) (turnOf sheet run e memory output)
   turns =
       rw turn-tested
-      (test 11 NoSheet (shut-says sheet) (λ a. opening (bad-sheet a)) by-11
-      (test 12 BadRun (or-says (le-says N (run .state .0)) (lt-says (length memory) (run .held))) (⊎-elim state-past held-past) by-12
+      (test 11 NoSheet (shut-says sheet) (λ a. standing (opening (bad-sheet a))) by-11
+      (test 12 BadRun (or-says (le-says N (run .state .0)) (lt-says (length memory) (run .held))) (λ a. standing (past a)) by-12
       (test 13 Code (le-says (headIn sheet .events) (e .0)) event-past by-13
       (test 14 (Cell (run .state) e) (or-says (eq-says (cell / 64) 3) (le-says N (cell % 64))) (⊎-elim operation-3 next-past) by-14
       (test 15 Memory (and-says (store-says o) (le-says (length memory) (run .held))) (λ a. memory-full (a .0) (a .1)) by-15

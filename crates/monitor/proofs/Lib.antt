@@ -1,4 +1,9 @@
 pub mod EventLaws
+pub mod CallsLaws
+pub mod EveningLaws
+pub mod FirstLaws
+pub mod EveningGivenLaws
+pub mod TwoLaws
 pub mod FreshLaws
 pub mod GivenLaws
 pub mod OneAnswer

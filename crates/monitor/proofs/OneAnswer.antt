@@ -11,3 +11,9 @@ event-one-answer κs a x y = (
   x .told .answer ∙ sym (y .told .answer),
   λ i. (tt, (tt, (tt, ((x .told .memory-after ∙ sym (y .told .memory-after)) i, ((x .told .output-after ∙ sym (y .told .output-after)) i, tt))))),
 )
+
+pub events-one-answer : OneAnswer proofs.events.ended proofs.events.Reads.Learnt
+events-one-answer κs a x y = (
+  x .told .report ∙ sym (y .told .report),
+  λ i. (tt, (tt, (tt, ((x .told .memory-after ∙ sym (y .told .memory-after)) i, ((x .told .output-after ∙ sym (y .told .output-after)) i, tt))))),
+)

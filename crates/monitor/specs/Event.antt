@@ -1,7 +1,7 @@
 -- What one event comes to: classified once, into a move with its operation or a refusal; the answer, the memory and the output follow from that (Effects).
 -- Assumes nothing.
 use Prim.Native.Nat.{ℕ, _/_, _%_}
-use mathlib.Core.Bool.{cond, _||_}
+use mathlib.Core.Bool.{Bool, cond, _||_}
 use mathlib.Core.List.{List}
 use lib.ListN.{length}
 use lib.Dec.{leb, ltb, eqb}
@@ -29,10 +29,14 @@ cellTurn cell states run e =
 abbrev pub cellAt : Head → (sheet : List ℕ) → Run → EventNo → ℕ
 cellAt h sheet run e = cellIn h sheet (run .state .0) (e .0)
 
--- 12: state >= N, or more held than the memory is long; 13: event >= K; then what the cell says
+-- 12: state >= N, or more held than the memory is long
+abbrev pub unfit : Head → Run → (room : ℕ) → Bool
+unfit h run room = leb (h .states) (run .state .0) || ltb room (run .held)
+
+-- 12; 13: event >= K; then what the cell says
 unfoldable pub lookOf : Head → (sheet : List ℕ) → Run → EventNo → (room : ℕ) → Turn
 lookOf h sheet run e room =
-    cond (leb (h .states) (run .state .0) || ltb room (run .held)) (Refused BadRun)
+    cond (unfit h run room) (Refused BadRun)
     (cond (leb (h .events) (e .0)) (Refused Code)
     (cellTurn (cellAt h sheet run e) (h .states) run e))
 

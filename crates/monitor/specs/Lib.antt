@@ -1,3 +1,4 @@
 pub mod Fresh
 pub mod Event
+pub mod Evening
 pub mod Given

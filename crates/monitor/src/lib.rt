@@ -1,5 +1,6 @@
-// The monitor: a fresh start, and one event (document 01, "What an operation does").
+// The monitor: a fresh start, one event (document 01, "What an operation does"), and an evening of events in one call (document 02, M-101).
 ghost use mathlib.Core.Path.{_≡_};
+ghost use Rattle.monitor.specs.Evening.{EveningPromise};
 ghost use Rattle.monitor.specs.Event.{EventPromise};
 ghost use Rattle.monitor.specs.Fresh.{startOf};
 
@@ -43,4 +44,44 @@ pub fn event(sheet: &[u8], run: Run, event: EventNo, memory: &mut [u8], output: 
         return Answer::Refused(Refusal::Sheet);
     };
     steps::step(sheet, head, run, event, memory, output)
+}
+
+// What an evening comes to: the run after the events taken, how many were taken and released, and the refusal that ended it, if one did.
+pub struct Evening {
+    pub run: Run,
+    pub taken: usize,
+    pub released: usize,
+    pub verdict: Verdict,
+}
+
+impl Evening {
+    // Refused with nothing taken.
+    fn refused(run: Run, refusal: Refusal) -> Self
+        ensures { λ r. ⌜ r ≡ record { run = run; taken = 0; released = 0; verdict = Verdict.Refused refusal } ⌝ }
+    {
+        Self {
+            run,
+            taken: 0,
+            released: 0,
+            verdict: Verdict::Refused(refusal),
+        }
+    }
+}
+
+// An evening: up to 4,096 events, each release put into the output right after the one before. It ends at the first refusal and keeps what
+// came before it; a halt does not end it. 19 comes first; then 11 and 12, which an empty log gives too; then those of each event.
+pub fn events(sheet: &[u8], run: Run, log: &[u8], memory: &mut [u8], output: &mut [u8]) -> Evening
+    ensures { λ r. ⌜ EveningPromise (now (sheet .entry)) run (now (log .entry)) (now (memory .entry)) (now (output .entry))
+        r (now (memory .exit)) (now (output .exit)) ⌝ }
+{
+    if 4096 < log.len() {
+        return Evening::refused(run, Refusal::Log);
+    }
+    let Opened::Sheet(head) = sheet::open(sheet) else {
+        return Evening::refused(run, Refusal::Sheet);
+    };
+    if steps::unfit(head, run, memory.len()) {
+        return Evening::refused(run, Refusal::Run);
+    }
+    steps::each(sheet, head, run, log, memory, output)
 }

@@ -1,8 +1,10 @@
-// One event on an opened sheet: what its cell says, and its operation carried out.
+// Events on an opened sheet: what a cell says, its operation carried out, and many of them one after another.
 ghost use mathlib.Core.Path.{_≡_};
 ghost use Rattle.sheet.specs.Opening.{openedOf};
 ghost use Rattle.sheet.specs.declared.Opened.the-variants.{Sheet};
-ghost use Rattle.monitor.specs.Event.{cellTurn, lookOf, StepPromise};
+ghost use Rattle.monitor.specs.Event.{cellTurn, lookOf, StepPromise, unfit};
+ghost use Rattle.monitor.specs.Evening.{callsOf, Reports};
+use crate::Evening;
 use effects::Answer;
 use effects::Run;
 use effects::Turn;
@@ -13,10 +15,18 @@ use rule::EventNo;
 use rule::Operation;
 use rule::Refusal;
 use rule::StateNo;
+use rule::Verdict;
 use rule::place;
 use sheet::Head;
 
-// What a cell says: refusal 14, or a move. Its two tests, and those of 12 below, are joined by `|`: one branch for both.
+// Whether 12 refuses the run. Its two tests, and those of 14 below, are joined by `|`: one branch for both.
+pub(crate) fn unfit(head: Head, run: Run, room: usize) -> bool
+    ensures { λ r. ⌜ r ≡ unfit head run room ⌝ }
+{
+    (head.states <= run.state.0) | (room < run.held)
+}
+
+// What a cell says: refusal 14, or a move.
 fn read(cell: u8, states: u8, run: Run, event: EventNo) -> Turn
     ensures { λ r. ⌜ r ≡ cellTurn cell states run event ⌝ }
 {
@@ -37,7 +47,7 @@ pub(crate) fn look(sheet: &[u8], head: Head, run: Run, event: EventNo, room: usi
     requires { ⌜ Sheet head ≡ openedOf (now sheet) ⌝ }
     ensures { λ r. ⌜ r ≡ lookOf head (now (sheet .entry)) run event room ⌝ }
 {
-    if (head.states <= run.state.0) | (room < run.held) {
+    if unfit(head, run, room) {
         return Turn::Refused(Refusal::Run);
     }
     if head.events <= event.0 {
@@ -70,5 +80,58 @@ pub(crate) fn step(
                 return dump(next, &memory[..held], event, output);
             }
         },
+    }
+}
+
+// The events of a log, one after another, each given the unwritten rest of the output, up to the first refusal.
+pub(crate) fn each(
+    sheet: &[u8],
+    head: Head,
+    run: Run,
+    log: &[u8],
+    memory: &mut [u8],
+    output: &mut [u8],
+) -> Evening
+    requires { ⌜ Sheet head ≡ openedOf (now sheet) ⌝ }
+    ensures { λ r. ⌜ Reports (callsOf (now (sheet .entry)) run (now (log .entry)) (now (memory .entry)) (now (output .entry)))
+        r (now (memory .exit)) (now (output .exit)) ⌝ }
+{
+    let mut present = run;
+    let mut taken = 0;
+    let mut released = 0;
+    while taken < log.len() {
+        let answer = step(
+            sheet,
+            head,
+            present,
+            EventNo(log[taken]),
+            memory,
+            &mut output[released..],
+        );
+        match answer {
+            Answer::Taken {
+                operation: _,
+                run: next,
+                released: more,
+            } => {
+                present = next;
+                released += more;
+                taken += 1;
+            }
+            Answer::Refused(refusal) => {
+                return Evening {
+                    run: present,
+                    taken,
+                    released,
+                    verdict: Verdict::Refused(refusal),
+                };
+            }
+        }
+    }
+    Evening {
+        run: present,
+        taken,
+        released,
+        verdict: Verdict::Sound,
     }
 }

@@ -21,19 +21,22 @@ use Rattle.book.specs.declared.Lookup.the-variants.{Job, Office, Refused as Not
 use Rattle.book.proofs.GivenLaws.{find-sound, find-gives}
 use Rattle.monitor.specs.Event.{EventPromise}
 use Rattle.monitor.specs.Fresh.{startOf}
-use Rattle.monitor.specs.Given.{FreshRow, freshOrder, EventRow, eventOrder}
+use Rattle.monitor.specs.Given.{FreshRow, freshOrder, EventRow, eventOrder, EveningRow, eveningOrder}
 use Rattle.monitor.proofs.FreshLaws.{fresh-ends}
 use Rattle.monitor.proofs.GivenLaws.{event-ends}
+use Rattle.monitor.proofs.EveningGivenLaws.{evening-ends}
 use Rattle.effects.specs.Effects.{freshRun}
 use Rattle.effects.specs.declared.Run.{Run}
 use Rattle.effects.specs.declared.Answer.{Answer}
 use Rattle.effects.specs.declared.Answer.the-variants.{Taken, Refused}
 use Rattle.pachallu.specs.Told.{madeOf, PutForC, foundOf, FindForC, startedOf, FreshForC, runOf, answeredOf, EventForC}
 use Rattle.pachallu.specs.Told.{madeTold, foundTold, startedTold, answeredTold, PutKept, FindKept, FreshKept, EventKept}
+use Rattle.pachallu.specs.Told.{EveningForC, eveningTold, EveningKeptForC}
 use Rattle.pachallu.specs.declared.Made.{Made}
 use Rattle.pachallu.specs.declared.Found.{Found}
 use Rattle.pachallu.specs.declared.Started.{Started}
 use Rattle.pachallu.specs.declared.Answered.{Answered}
+use Rattle.pachallu.specs.declared.Evening.{Evening}
 
 -- a call that puts bytes into an output, by how the call behind it ends
 pub c-put-ends : {T : Table} {order : List ℕ} {Promise : Written → List ℕ → Type 0} {out : List ℕ} {r : Made} {out′ : List ℕ}
@@ -90,3 +93,12 @@ c-event-ends {sheet} {state} {held} {event} {memory} {output} {r} {memory′} {o
               let k = e .rest n in
               record { memory-kept = k .0; output-kept = k .1; state-kept = refl; held-kept = refl; operation = refl; released = refl };
         }
+
+-- an evening
+pub c-evening-ends : {sheet : List ℕ} {state held : ℕ} {log memory output : List ℕ} {r : Evening} {memory′ output′ : List ℕ}
+    → EveningForC sheet state held log memory output r memory′ output′
+    → Ends (EveningRow sheet (runOf state held) log memory output) eveningOrder (eveningTold r)
+    (EveningKeptForC sheet state held log memory output r memory′ output′)
+c-evening-ends {sheet} {state} {held} {log} {memory} {output} {r} {memory′} {output′} p =
+    let e = evening-ends sheet (runOf state held) memory output (p .answer) memory′ output′ log (p .promise) in
+    rw (p .told) (record { tells = e .tells; rest = λ n. record { answer = p .answer; told = refl; kept = e .rest n } })

@@ -1,7 +1,7 @@
 -- Any two calls with the same arguments that the contract of a function of this crate allows are equal. Assumes nothing.
 use mathlib.Core.Path.{refl, sym, ap, _∙_}
 use Rattle.contracts.specs.Contract.{OneAnswer}
-use Rattle.pachallu.specs.Told.{madeOf, answeredOf, runOf}
+use Rattle.pachallu.specs.Told.{madeOf, answeredOf, eveningFor, runOf}
 use Rattle.pachallu.proofs
 
 pub pachallu-make-one-answer : OneAnswer proofs.pachallu_make.ended proofs.pachallu_make.Reads.Learnt
@@ -33,5 +33,13 @@ pachallu-event-one-answer κs a x y =
     let p = x .told .promise in
     let q = y .told .promise in (
       x .told .told ∙ ap (λ r. answeredOf r (runOf (a .1 .0) (a .1 .1 .0))) (p .answer ∙ sym (q .answer)) ∙ sym (y .told .told),
+      λ i. (tt, (tt, (tt, (tt, ((p .memory-after ∙ sym (q .memory-after)) i, ((p .output-after ∙ sym (q .output-after)) i, tt)))))),
+    )
+
+pub pachallu-events-one-answer : OneAnswer proofs.pachallu_events.ended proofs.pachallu_events.Reads.Learnt
+pachallu-events-one-answer κs a x y =
+    let p = x .told .promise in
+    let q = y .told .promise in (
+      x .told .told ∙ ap eveningFor (p .report ∙ sym (q .report)) ∙ sym (y .told .told),
       λ i. (tt, (tt, (tt, (tt, ((p .memory-after ∙ sym (q .memory-after)) i, ((p .output-after ∙ sym (q .output-after)) i, tt)))))),
     )

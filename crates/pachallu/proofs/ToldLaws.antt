@@ -5,10 +5,11 @@ use mathlib.Core.Path.{_≡_, sym, _∙_}
 use mathlib.Core.List.{List}
 use Rattle.rule.specs.Drawing.{eventNo}
 use Rattle.rule.specs.Operations.{markOf}
-use Rattle.rule.specs.Refusals.{toldOf}
+use Rattle.rule.specs.Refusals.{toldOf, verdictTold}
 use Rattle.rule.specs.declared.Operation.{Operation}
 use Rattle.rule.specs.declared.Refusal.{Refusal}
 use Rattle.rule.specs.declared.Told.{Told}
+use Rattle.rule.specs.declared.Verdict.{Verdict}
 use Rattle.rule.specs.declared.Verdict.the-variants.{Sound, Refused as Unsound}
 use Rattle.rule.specs.declared.Written.{Written}
 use Rattle.rule.specs.declared.Written.the-variants.{Done, Refused as Unwritten}
@@ -17,11 +18,13 @@ use Rattle.book.specs.declared.Lookup.{Lookup}
 use Rattle.book.specs.declared.Lookup.the-variants.{Job, Office, Refused as NotFound}
 use Rattle.monitor.specs.Fresh.{startOf}
 use Rattle.monitor.specs.Event.{EventPromise}
+use Rattle.monitor.specs.Evening.{EveningPromise}
+use Rattle.monitor.specs.declared.Evening.{Evening}
 use Rattle.effects.specs.declared.Run.{Run}
 use Rattle.monitor.specs.declared.Start.{Start}
 use Rattle.effects.specs.declared.Answer.{Answer}
 use Rattle.effects.specs.declared.Answer.the-variants.{Taken, Refused}
-use Rattle.pachallu.specs.Told.{madeOf, FindForC, FreshForC, EventForC, runOf}
+use Rattle.pachallu.specs.Told.{madeOf, FindForC, FreshForC, EventForC, EveningForC, runOf}
 
 -- putting bytes
 pub made-done : {w : Written} {n : ℕ} → w ≡ Done n → record { refusal = 0; a = 0; b = 0; written = n } ≡ madeOf w
@@ -67,3 +70,17 @@ module _ {sheet memory output memory′ output′ : List ℕ} {state held code :
       → EventForC sheet state held code memory output
       (record { refusal = t .number; a = t .a; b = t .b; operation = 0; state = state; held = held; released = 0 }) memory′ output′
   event-refused p q e = record { answer = r; promise = p; told = rw (q, e) }
+
+-- a verdict, and an evening
+pub told-sound : {v : Verdict} → v ≡ Sound → record { number = 0; a = 0; b = 0 } ≡ verdictTold v
+told-sound q = rw q
+
+pub told-refused : {v : Verdict} {x : Refusal} {t : Told} → v ≡ Unsound x → t ≡ toldOf x → t ≡ verdictTold v
+told-refused q e = rw q e
+
+pub evening-told : {sheet log memory output memory′ output′ : List ℕ} {state held : ℕ} {r : Evening} {t : Told}
+    → EveningPromise sheet (runOf state held) log memory output r memory′ output′ → t ≡ verdictTold (r .verdict)
+    → EveningForC sheet state held log memory output
+    (record { refusal = t .number; a = t .a; b = t .b; state = r .run .state .0; held = r .run .held; taken = r .taken; released = r .released })
+    memory′ output′
+evening-told {r = r} p e = record { answer = r; promise = p; told = rw e }

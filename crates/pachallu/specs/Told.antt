@@ -5,7 +5,7 @@ use mathlib.Core.Path.{_≡_}
 use mathlib.Core.List.{List}
 use Rattle.rule.specs.Drawing.{stateNo, eventNo}
 use Rattle.rule.specs.Operations.{markOf}
-use Rattle.rule.specs.Refusals.{tell, toldOf}
+use Rattle.rule.specs.Refusals.{tell, toldOf, verdictTold}
 use Rattle.rule.specs.declared.Told.{Told}
 use Rattle.rule.specs.declared.Verdict.{Verdict}
 use Rattle.rule.specs.declared.Verdict.the-variants.{Sound, Refused as Unsound}
@@ -19,6 +19,9 @@ use Rattle.making.specs.Making.{MakePromise}
 use Rattle.printed.specs.Printing.{PrintPromise}
 use Rattle.monitor.specs.Fresh.{startOf}
 use Rattle.monitor.specs.Event.{EventPromise}
+use Rattle.monitor.specs.Evening.{EveningPromise}
+use Rattle.monitor.specs.Given.{EveningKept}
+use Rattle.monitor.specs.declared.Evening.{Evening as Reported}
 use Rattle.effects.specs.declared.Run.{Run}
 use Rattle.effects.specs.declared.Answer.{Answer}
 use Rattle.effects.specs.declared.Answer.the-variants.{Taken, Refused}
@@ -26,6 +29,7 @@ use Rattle.pachallu.specs.declared.Made.{Made}
 use Rattle.pachallu.specs.declared.Started.{Started}
 use Rattle.pachallu.specs.declared.Answered.{Answered}
 use Rattle.pachallu.specs.declared.Found.{Found}
+use Rattle.pachallu.specs.declared.Evening.{Evening}
 
 -- putting bytes into an output: 0 is "done"; a refused call has written nothing
 abbrev pub madeOf : Written → Made
@@ -89,6 +93,24 @@ pub record EventForC (sheet : List ℕ) (state held event : ℕ) (memory output 
   pub promise : EventPromise sheet (runOf state held) (eventNo event) memory output answer memory′ output′
   pub told : r ≡ answeredOf answer (runOf state held)
 
+-- an evening: 0 is "all taken"; a refused one has the run state, and the numbers taken and released, that the events before the refused one left
+abbrev pub eveningFor : Reported → Evening
+eveningFor r =
+    record {
+      refusal = verdictTold (r .verdict) .number;
+      a = verdictTold (r .verdict) .a;
+      b = verdictTold (r .verdict) .b;
+      state = r .run .state .0;
+      held = r .run .held;
+      taken = r .taken;
+      released = r .released;
+    }
+
+pub record EveningForC (sheet : List ℕ) (state held : ℕ) (log memory output : List ℕ) (r : Evening) (memory′ output′ : List ℕ) : Type 0 where
+  pub answer : Reported
+  pub promise : EveningPromise sheet (runOf state held) log memory output answer memory′ output′
+  pub told : r ≡ eveningFor answer
+
 -- the number and the places of an answer
 abbrev pub madeTold : Made → Told
 madeTold r = tell (r .refusal) (r .a) (r .b)
@@ -101,6 +123,9 @@ answeredTold r = tell (r .refusal) (r .a) (r .b)
 
 abbrev pub foundTold : Found → Told
 foundTold r = tell (r .refusal) (r .a) (r .b)
+
+abbrev pub eveningTold : Evening → Told
+eveningTold r = tell (r .refusal) (r .a) (r .b)
 
 -- what a refused call leaves: the output as it was and nothing written; 0 for the book, the start and the length; state 0 with nothing held;
 -- the memory, the output and the run state as they were
@@ -124,3 +149,9 @@ pub record EventKept (state held : ℕ) (memory output : List ℕ) (r : Answered
   pub held-kept : r .held ≡ held
   pub operation : r .operation ≡ 0
   pub released : r .released ≡ 0
+
+-- what a refused evening leaves: what the events before the refused one left, told in numbers
+pub record EveningKeptForC (sheet : List ℕ) (state held : ℕ) (log memory output : List ℕ) (r : Evening) (memory′ output′ : List ℕ) : Type 0 where
+  pub answer : Reported
+  pub told : r ≡ eveningFor answer
+  pub kept : EveningKept sheet (runOf state held) log memory output answer memory′ output′

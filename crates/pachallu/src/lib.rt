@@ -1,11 +1,13 @@
 // What C calls: numbers and byte slices. Each call is one of the house's, and its answer is told in numbers; include/pachallu.h declares them.
 ghost use mathlib.Core.Path.{_≡_};
-ghost use Rattle.pachallu.specs.Told.{madeOf, MakeForC, PrintForC, FindForC, AddForC, FreshForC, EventForC};
+ghost use Rattle.rule.specs.Refusals.{verdictTold};
+ghost use Rattle.pachallu.specs.Told.{madeOf, MakeForC, PrintForC, FindForC, AddForC, FreshForC, EventForC, EveningForC};
 use book::Lookup;
 use effects::Answer;
 use effects::Run;
 use rule::EventNo;
 use rule::StateNo;
+use rule::Told;
 use rule::Verdict;
 use rule::Written;
 
@@ -49,6 +51,18 @@ pub struct Found {
     pub book: u8,
     pub start: usize,
     pub length: usize,
+}
+
+// What an evening of events came to: the run state after those taken, how many were taken and released, and the refusal that ended it, or 0.
+#[repr(C)]
+pub struct Evening {
+    pub refusal: u8,
+    pub a: u8,
+    pub b: u8,
+    pub state: u8,
+    pub held: usize,
+    pub taken: usize,
+    pub released: usize,
 }
 
 // What came of putting bytes, told in numbers.
@@ -211,4 +225,51 @@ pub extern "C" fn pachallu_add(book: &[u8], number: u8, rule: &[u8], out: &mut [
     ensures { λ r. ⌜ AddForC (now (book .entry)) number (now (rule .entry)) (now (out .entry)) r (now (out .exit)) ⌝ }
 {
     made_of(book::add(book, number, rule, out))
+}
+
+// A verdict in numbers: 0 where it is sound.
+fn told_of(verdict: Verdict) -> Told
+    ensures { λ r. ⌜ r ≡ verdictTold verdict ⌝ }
+{
+    match verdict {
+        Verdict::Sound => Told {
+            number: 0,
+            a: 0,
+            b: 0,
+        },
+        Verdict::Refused(refusal) => refusal.told(),
+    }
+}
+
+// Offers up to 4,096 events to a run: the refusals 19, then 11 to 16. What was released stands at the front of `output`.
+#[no_mangle]
+pub extern "C" fn pachallu_events(
+    sheet: &[u8],
+    state: u8,
+    held: usize,
+    log: &[u8],
+    memory: &mut [u8],
+    output: &mut [u8],
+) -> Evening
+    ensures { λ r. ⌜ EveningForC (now (sheet .entry)) state held (now (log .entry)) (now (memory .entry)) (now (output .entry))
+        r (now (memory .exit)) (now (output .exit)) ⌝ }
+{
+    let run = Run {
+        state: StateNo(state),
+        held,
+    };
+    let evening = monitor::events(sheet, run, log, memory, output);
+    let verdict = evening.verdict;
+    let told = told_of(verdict);
+    let after = evening.run;
+    let at = after.state;
+    Evening {
+        refusal: told.number,
+        a: told.a,
+        b: told.b,
+        state: at.0,
+        held: after.held,
+        taken: evening.taken,
+        released: evening.released,
+    }
 }

@@ -1,16 +1,17 @@
 -- A verdict that gives the first row of a table that holds, in the order of checking: row by row, and then of all rows.
 -- Assumes nothing.
 use Prim.Native.Nat.{ℕ}
-use mathlib.Core.Path.{_≡_, refl, subst}
+use mathlib.Core.Path.{_≡_, refl, sym, subst}
 use mathlib.Core.Bool.{Bool, true, false}
 use mathlib.Core.List.{List, [], _∷_, _++_}
-use mathlib.Core.Logic.{inr, ⊎-elim, _↔_, Iff·trans, Iff·symm}
+use lib.Dec.{eqb}
+use mathlib.Core.Logic.{_⊎_, inr, ⊎-elim, _↔_, Iff·trans, Iff·symm}
 use Rattle.rule.specs.Refusals.{toldOf, among, refuseIf, orElse, verdictTold}
 use Rattle.rule.specs.Given.{Table, NoneAt, NoRow, Given, here, later, After, row, last, done, refused, Ends}
 use Rattle.rule.specs.declared.Refusal.{Refusal}
 use Rattle.rule.specs.declared.Verdict.{Verdict}
 use Rattle.rule.specs.declared.Verdict.the-variants.{Sound, Refused}
-use Rattle.rule.proofs.BoolLaws.{Says, clash}
+use Rattle.rule.proofs.BoolLaws.{Says, eq-says, clash}
 use Rattle.rule.proofs.NumberLaws.{among-says, first-among, among-either, among-ahead, among-last, Gives}
 use Rattle.rule.proofs.RefusalLaws.{not-both, sound-or, refuse-refused}
 
@@ -54,7 +55,7 @@ module _ {T : Table} where
   own-row {x} within g = let r = row-of g in rw (within (r .0) x (r .1) .number) (r .1)
 
   -- given before others are looked at, and given after others have no row that holds
-  ahead : {x : Refusal} {l : List ℕ} (m : List ℕ) → Given T x l → Given T x (l ++ m)
+  pub ahead : {x : Refusal} {l : List ℕ} (m : List ℕ) → Given T x l → Given T x (l ++ m)
   ahead m (here r) = here r
   ahead m (later z g) = later z (ahead m g)
 
@@ -64,6 +65,17 @@ module _ {T : Table} where
   pub behind : {x : Refusal} (l m : List ℕ) → NoneOf T l → Given T x m ↔ Given T x (l ++ m)
   behind [] m none = (λ g. g, λ g. g)
   behind (n ∷ l) m none = Iff·trans (behind l m (λ k a. none k (among-says k n l .1 (inr a)))) (passing (none n (first-among n l)))
+
+  -- a row that holds is given, where no row with another number holds
+  only-by : {n : ℕ} {x : Refusal} (m : ℕ) (l : List ℕ) → T n x → ((k : ℕ) (y : Refusal) → T k y → k ≡ n) → (among n l ≡ true → Given T x l)
+      → among n (m ∷ l) ≡ true → (b : Bool) → eqb n m ≡ b → Given T x (m ∷ l)
+  only-by {n} m l r only rest a true q = let e = eq-says n m .0 q in here (rw e at r)
+  only-by {n} m l r only rest a false q =
+      later (λ y s. clash (eq-says n m .1 (sym (only m y s))) q) (rest (⊎-elim (λ e. clash (eq-says n m .1 e) q) (λ z. z) (among-says n m l .0 a)))
+
+  pub only-given : {n : ℕ} {x : Refusal} (order : List ℕ) → among n order ≡ true → T n x → ((k : ℕ) (y : Refusal) → T k y → k ≡ n) → Given T x order
+  only-given [] a r only = clash a refl
+  only-given {n} (m ∷ l) a r only = only-by m l r only (λ z. only-given l z r only) a (eqb n m) refl
 
   -- where one of these numbers has a row that holds, what is given is given by one of them
   within-first : {x z : Refusal} {l : List ℕ} (m : List ℕ) → Given T z l → Given T x (l ++ m) → Given T x l

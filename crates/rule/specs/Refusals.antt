@@ -13,7 +13,7 @@ use Rattle.rule.specs.Classes.{forbidsSome}
 use Rattle.rule.specs.declared.Told.{Told}
 use Rattle.rule.specs.declared.Refusal.{Refusal}
 use Rattle.rule.specs.declared.Refusal.the-variants.{Frame, Class, Range, Distance, Entry, Member, Excess, Move, Stopping, Empty, Sheet, Run}
-use Rattle.rule.specs.declared.Refusal.the-variants.{Code, Cell, Memory, Room, Book, Missing, Full}
+use Rattle.rule.specs.declared.Refusal.the-variants.{Code, Cell, Memory, Room, Book, Missing, Log, Full}
 use Rattle.rule.specs.declared.Verdict.{Verdict}
 use Rattle.rule.specs.declared.Verdict.the-variants.{Sound, Refused}
 
@@ -40,6 +40,7 @@ toldOf Memory = tell 15 0 0
 toldOf Room = tell 16 0 0
 toldOf (Book which) = tell 17 which 0
 toldOf Missing = tell 18 0 0
+toldOf Log = tell 19 0 0
 toldOf Full = tell 26 0 0
 
 -- what a verdict tells: 0 where it is sound, else the refusal's number and places

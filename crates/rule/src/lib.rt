@@ -113,6 +113,7 @@ pub enum Refusal {
     Room,
     Book(u8),
     Missing,
+    Log,
     Full,
 }
 
@@ -167,6 +168,7 @@ impl Refusal {
             Refusal::Room => Told::new(16, 0, 0),
             Refusal::Book(which) => Told::new(17, which, 0),
             Refusal::Missing => Told::new(18, 0, 0),
+            Refusal::Log => Told::new(19, 0, 0),
             Refusal::Full => Told::new(26, 0, 0),
         }
     }

@@ -130,8 +130,9 @@ fn books(command: u8, first: u8, second: u8, place: u8, bytes: &[u8]) -> bool {
 
 // A command by its letter. Answers whether there is one with so many numbers.
 pub(crate) fn call(command: u8, numbers: &[u8], bytes: &[u8]) -> bool {
-    if command == b'e' {
-        return runs::event(bytes, numbers);
+    match command {
+        b'e' | b'v' | b'l' => return runs::event(command, bytes, numbers),
+        _ => {}
     }
     if numbers.len() == 1 {
         let mut whole = [171u8; 255];

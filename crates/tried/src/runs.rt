@@ -1,5 +1,6 @@
-// The calls on a sheet: a fresh start, and events.
+// The calls on a sheet: a fresh start, events, and an evening of them in one call.
 use crate::said;
+use crate::script::part;
 use crate::script::wide;
 use effects::Answer;
 use effects::Run;
@@ -50,8 +51,50 @@ fn follow(sheet: &[u8], start: Run, codes: &[u8], memory: &mut [u8], output: &mu
     said::memory(memory);
 }
 
+// Events in one call.
+fn evening(sheet: &[u8], start: Run, codes: &[u8], memory: &mut [u8], output: &mut [u8]) {
+    let evening = monitor::events(sheet, start, codes, memory, output);
+    let verdict = evening.verdict;
+    match verdict {
+        Verdict::Sound => said::say(b" sound"),
+        Verdict::Refused(refusal) => said::refused(refusal),
+    }
+    said::run(evening.run);
+    said::say(b" taken");
+    said::number(evening.taken as u64);
+    said::say(b" released");
+    said::number(evening.released as u64);
+    said::output(output);
+    said::memory(memory);
+}
+
+// The same with 4,000 events and as many more as the first number says, all of code 0.
+fn long_evening(sheet: &[u8], start: Run, numbers: &[u8], memory: &mut [u8], output: &mut [u8]) {
+    let log = [0u8; 4255];
+    if 0 < numbers.len() {
+        let count = 4000 + wide(numbers[0]);
+        evening(sheet, start, part(&log, 0, count), memory, output);
+    }
+}
+
+// The events by the letter of a command.
+fn offered(
+    command: u8,
+    sheet: &[u8],
+    start: Run,
+    codes: &[u8],
+    memory: &mut [u8],
+    output: &mut [u8],
+) {
+    match command {
+        b'e' => follow(sheet, start, codes, memory, output),
+        b'v' => evening(sheet, start, codes, memory, output),
+        _ => long_evening(sheet, start, codes, memory, output),
+    }
+}
+
 // Events with buffers of 171s: the lengths of the memory and of the output, the state, how many are held, the codes.
-pub(crate) fn event(sheet: &[u8], numbers: &[u8]) -> bool {
+pub(crate) fn event(command: u8, sheet: &[u8], numbers: &[u8]) -> bool {
     if numbers.len() < 4 {
         return false;
     }
@@ -65,7 +108,8 @@ pub(crate) fn event(sheet: &[u8], numbers: &[u8]) -> bool {
         state: StateNo(numbers[2]),
         held: wide(numbers[3]),
     };
-    follow(
+    offered(
+        command,
         sheet,
         run,
         &numbers[4..],

@@ -17,4 +17,4 @@ returns-3 : tie.Need-returns-3
 returns-3 c = search (needs, place-fits)
 
 pub look-spec : {M : Type 1} → statement M
-look-spec = tie.close (tie.spec returns returns-2 (λ c κs. search needs) shared-slice-read-read (λ c κs. search needs) returns-3)
+look-spec = tie.close (tie.spec (λ c κs. search needs) returns returns-2 (λ c κs. search needs) shared-slice-read-read (λ c κs. search needs) returns-3)
