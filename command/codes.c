@@ -125,9 +125,9 @@ static void tell_no_code(struct codes *in) {
          named ? " or the name of one of the rule's codes" : "");
 }
 
-/* The word is over: its code goes into the block. A word that is none stays. */
+/* The word is over, or longer than any code: its code goes into the block. A word that is none stays. */
 static void end_word(struct codes *in) {
-    int code = code_in(in, in->word, in->word_len);
+    int code = in->word_len < WORD_MOST ? code_in(in, in->word, in->word_len) : -1;
     in->no_code = code < 0;
     if (in->no_code) return;
     in->block[in->gathered] = (uint8_t)code;

@@ -5,7 +5,7 @@
 #include "names.h"
 #include "streams.h"
 
-enum { BOOK_READ = 1 << 16, LINE_KEPT = 200, WORD_MOST = NAME_MOST + 3 };
+enum { BOOK_READ = 1 << 16, LINE_KEPT = 200, WORD_MOST = NAME_MOST + 1 };
 
 /* What came next in a book. */
 enum came { CODES, THE_END, NO_CODE, NOT_READ, NOT_WRITTEN };

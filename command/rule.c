@@ -89,6 +89,7 @@ void judge(struct loaded *loaded) {
 }
 
 void load_bytes(struct loaded *loaded, const uint8_t *bytes, size_t len) {
+    loaded->long_book = false;
     loaded->len = len < sizeof loaded->bytes ? len : sizeof loaded->bytes;
     memcpy(loaded->bytes, bytes, loaded->len);
     judge(loaded);
@@ -106,13 +107,23 @@ static enum status load_from_books(const struct source *from, struct loaded *loa
     return status;
 }
 
+/* A file that is too long for a rule is read a second time, as a whole, where that can be done. */
+static bool is_long_book(const char *file) {
+    struct rulebook book = {NULL, NULL, 0};
+    bool is_book = is_old_file(file) && rulebook_read(file, &book) == DONE && is_rulebook(&book);
+    rulebook_free(&book);
+    return is_book;
+}
+
 enum status load(const struct source *from, struct loaded *loaded) {
     if (!from->file) return load_from_books(from, loaded);
     loaded->file = from->file;
     loaded->part[0] = 0;
     enum status status = read_file(from->file, loaded->bytes, sizeof loaded->bytes, &loaded->len);
-    if (status == DONE) judge(loaded);
-    return status;
+    if (status != DONE) return status;
+    loaded->long_book = loaded->len > PACHALLU_RULE_MAX && is_long_book(from->file);
+    judge(loaded);
+    return DONE;
 }
 
 enum status load_accepted(const struct source *from, struct loaded *loaded) {

@@ -42,6 +42,7 @@ struct loaded {
     char part[32];                        /* "rule 7, age 0: " of a book; else nothing */
     uint8_t bytes[PACHALLU_RULE_MAX + 1]; /* one more shows a file that is too long */
     size_t len;
+    bool long_book; /* it is too long for a rule file, and a rule book */
     uint8_t sheet[PACHALLU_SHEET_MAX];
     pachallu_made made;
     struct rule rule; /* all 0 for a refusal from 1 to 4: the file has no parts then */

@@ -38,7 +38,7 @@ static void no_rule_file(struct growing *words, const struct loaded *l) {
         say(words, "this is no rule file: its last two bytes are %u and %u; 72 and 82 are wanted", (unsigned)l->bytes[l->len - 2],
             (unsigned)l->bytes[l->len - 1]);
     if (is_text(l->bytes, l->len)) say(words, ". It is text: pachallu draw makes a rule file of a drawing in text");
-    if (l->len <= PACHALLU_RULE_MAX && is_rulebook(&as_book))
+    if (l->long_book || (l->len <= PACHALLU_RULE_MAX && is_rulebook(&as_book)))
         say(words, ". It is a rule book: --book BOOK --rule NUMBER takes a rule out of it");
 }
 
