@@ -15,6 +15,7 @@ struct codes {
     const char *file;
     const struct names *names; /* of the rule */
     struct sink *out;          /* flushed before each read, so that what is known is seen while the book waits */
+    size_t count; /* codes so far, with the block; not beside `gathered`: one store for both is slow where it is split */
     int fd;
     uint8_t bytes[BOOK_READ]; /* what was read last, and how far it is looked through */
     size_t at, len;
@@ -29,7 +30,6 @@ struct codes {
     uint8_t block[PACHALLU_LOG_MAX];
     uint32_t where[PACHALLU_LOG_MAX];
     size_t gathered;
-    size_t count;            /* codes so far, with the block */
     uint8_t text[LINE_KEPT]; /* the front of the line that was not over when the bytes were read, or of the kept line */
     size_t text_len;
     bool kept, kept_over;

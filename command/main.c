@@ -10,8 +10,8 @@ enum { OUTPUT = 1, TELL_EACH = 2, NO_NAMES = 4, OFFICE = 8, JOB = 16, NUMBER = 3
 enum { FROM_BOOK = OFFICE | JOB | NUMBER | AGE, NUMBER_MOST = 255, AGE_MOST = 65535, WORDS_MOST = 4 };
 
 /* The words that a subcommand takes, a letter each: r a rule file, in place of which there may be --book and what goes with it;
- * f another file; j and o the rule books of a job and an office, the first not with --no-job; n the number of a rule; a an age,
- * which may be left out. */
+ * s a state and c a code of the rule; f another file; j and o the rule books of a job and an office, the first not with --no-job;
+ * n the number of a rule; a an age, which may be left out. */
 static const struct subcommand {
     const char *name, *operands;
     unsigned options;
@@ -25,6 +25,7 @@ static const struct subcommand {
     {"text", "r", FROM_BOOK, "RULE", "the drawing in text again", command_text},
     {"make", "r", OUTPUT | FROM_BOOK, "RULE [-o SHEET]", "the monitor sheet, for the library", command_make},
     {"run", "rf", TELL_EACH | FROM_BOOK, "RULE BOOK [-t]", "what is released, what is held, where it halts", command_run},
+    {"why", "rsc", FROM_BOOK, "RULE STATE CODE", "is the code held or halted there, and why", command_why},
     {"book new", "", OUTPUT, "[-o BOOK]", "begins a rule book: one of no rules", command_book_new},
     {"book add", "fnf", OUTPUT, "BOOK NUMBER RULE [-o NEW]", "the rule book with one rule more; NEW may be BOOK", command_book_add},
     {"book list", "f", 0, "BOOK", "its rules, oldest first", command_book_list},
@@ -150,8 +151,20 @@ static enum status set_operand(const struct subcommand *sub, char letter, const 
     case 'j': return take_file(sub, word, &arguments->rule.job);
     case 'o': return take_file(sub, word, &arguments->rule.office);
     case 'n': return take_rule_number(sub, word, &arguments->rule);
+    case 's': arguments->state = word; return DONE;
+    case 'c': arguments->code = word; return DONE;
     case 'a': return take_age(sub, word, &arguments->rule);
     default: return take_file(sub, word, &arguments->file[arguments->files++]);
+    }
+}
+
+/* What to say where the word of this letter is missing. */
+static const char *missing(char letter) {
+    switch (letter) {
+    case 'n': return "a rule's number is missing";
+    case 's': return "a state is missing";
+    case 'c': return "a code is missing";
+    default: return "a file is missing";
     }
 }
 
@@ -162,7 +175,7 @@ static enum status set_operands(const struct subcommand *sub, unsigned given, co
     for (const char *letter = sub->operands; *letter; letter++) {
         if ((*letter == 'r' && (given & OFFICE)) || (*letter == 'j' && (given & NO_JOB))) continue;
         if (next == count && *letter == 'a') break;
-        if (next == count) return bad_use(sub, *letter == 'n' ? "a rule's number is missing" : "a file is missing", NULL);
+        if (next == count) return bad_use(sub, missing(*letter), NULL);
         enum status status = set_operand(sub, *letter, words[next++], arguments);
         if (status != DONE) return status;
     }
@@ -180,7 +193,7 @@ static enum status one_standard_input(const struct subcommand *sub, const struct
 
 /* Could the word be an option? One that begins like a number below 0 is none, where a number is wanted. */
 static bool is_option(const struct subcommand *sub, const char *word) {
-    return word[0] == '-' && word[1] != 0 && !(strchr(sub->operands, 'n') && word[1] >= '0' && word[1] <= '9');
+    return word[0] == '-' && word[1] != 0 && !(strpbrk(sub->operands, "ns") && word[1] >= '0' && word[1] <= '9');
 }
 
 /* Takes the words after a subcommand. An option may stand anywhere; -- ends them. */
@@ -221,7 +234,7 @@ static bool asks_for_help(int count, char **words) {
 }
 
 static enum status act(const struct subcommand *sub, int count, char **words) {
-    struct arguments arguments = {{NULL, NULL}, 0, {NULL, NULL, NULL, 0, 0}, NULL, false, false};
+    struct arguments arguments = {0};
     if (asks_for_help(count, words)) return help(sub);
     enum status status = take_words(sub, count, words, &arguments);
     return status == DONE ? sub->act(&arguments) : status;

@@ -6,11 +6,13 @@
 
 #include "codes.h"
 #include "command.h"
+#include "why.h"
 #include "words.h"
 
-/* The most codes that are held, so that an endless book ends; the released codes that -t lists again at the end. */
+/* The most codes that are held, so that an endless book ends; the released codes that -t lists again at the end; the codes of a way
+ * that it tells of each held one. */
 #define HELD_MOST ((size_t)1 << 28)
-enum { LISTED = 4096, ALL_CODES = 256 };
+enum { LISTED = 4096, WAY_TOLD = 8, ALL_CODES = 256 };
 
 /* The refusal of a code that the rule does not have. A block gets no other one: the sheet was made here, and there is room. */
 enum { NOT_OF_THE_RULE = 13 };
@@ -23,6 +25,7 @@ struct word {
 
 struct course {
     const struct loaded *loaded;
+    struct reasons reasons;
     bool tell_each;
     struct sink out;
     struct codes book;
@@ -33,7 +36,7 @@ struct course {
     size_t held, room;
     uint8_t *memory, *output;
     /* what has come of it */
-    size_t released, halted_at, halted_line;
+    size_t released, halted_at, halted_line, halted_state;
     size_t not_taken, not_taken_at, not_taken_line;
     uint8_t not_taken_code;
     uint8_t fault; /* a refusal that should never be; 0: none */
@@ -77,6 +80,22 @@ static void tell_code(struct course *c, uint8_t code) {
     for (size_t i = width(&c->words[code]); i < c->widest + 2; i++) put_text(&c->out, " ");
 }
 
+static void tell_store(struct course *c, const pachallu_evening *answer) {
+    put_line(&c->out, "store  %zu held; waits for", answer->held);
+    put_wait(&c->out, &c->loaded->rule, reason_at(&c->reasons, answer->state), WAY_TOLD);
+    put_text(&c->out, "\n");
+}
+
+/* What is lost is told where it is lost, and not again. */
+static void tell_halt(struct course *c, const pachallu_evening *answer) {
+    put_text(&c->out, "halt");
+    if (!c->halted_at) {
+        put_text(&c->out, "   lost: ");
+        put_lost(&c->out, &c->loaded->rule, reason_at(&c->reasons, answer->state));
+    }
+    put_text(&c->out, "\n");
+}
+
 static void tell_answer(struct course *c, uint8_t code, const pachallu_evening *answer) {
     tell_code(c, code);
     if (answer->refusal)
@@ -84,9 +103,9 @@ static void tell_answer(struct course *c, uint8_t code, const pachallu_evening *
     else if (answer->released > 0)
         put_list(c, "dump   out:", c->output, answer->released);
     else if (answer->held > c->held)
-        put_line(&c->out, "store  %zu held\n", answer->held);
+        tell_store(c, answer);
     else
-        put_text(&c->out, "halt\n");
+        tell_halt(c, answer);
 }
 
 /* ---- the run */
@@ -117,11 +136,13 @@ static void release(struct course *c, size_t count) {
     c->released += count;
 }
 
-/* `place` is that of the code in the block. */
-static void note_halt(struct course *c, size_t place) {
+/* The code at `place` of the block is the first to be halted; the run stands where it stood before the one at `from`. */
+static void note_halt(struct course *c, size_t from, size_t place) {
     c->halted_at = number_of_code(&c->book, place);
     c->halted_line = line_of_code(&c->book, place);
     keep_line(&c->book, place);
+    c->halted_state = c->state;
+    for (; from <= place; from++) c->halted_state = move_of(&c->loaded->rule, c->halted_state, c->book.block[from]);
 }
 
 static void note_not_taken(struct course *c, size_t place) {
@@ -140,7 +161,7 @@ static size_t offer(struct course *c, size_t place) {
     size_t halted = c->held + answer.taken - answer.released - answer.held;
     if (c->tell_each) tell_answer(c, log[0], &answer);
     release(c, answer.released);
-    if (halted > 0 && !c->halted_at) note_halt(c, place + answer.taken - halted);
+    if (halted > 0 && !c->halted_at) note_halt(c, place, place + answer.taken - halted);
     c->state = answer.state;
     c->held = answer.held;
     if (!answer.refusal) return answer.taken;
@@ -172,6 +193,18 @@ static void put_released(struct course *c) {
         put_line(&c->out, "released  %zu codes, each told above\n", c->released);
 }
 
+/* What would release the held codes; or what was lost at the first halt, so that nothing does. */
+static void put_why(struct course *c) {
+    if (!c->halted_at && c->held == 0) return;
+    const struct reason *reason = reason_at(&c->reasons, c->halted_at ? c->halted_state : c->state);
+    put_text(&c->out, c->halted_at ? "lost      " : "waits for");
+    if (c->halted_at)
+        put_lost(&c->out, &c->loaded->rule, reason);
+    else
+        put_wait(&c->out, &c->loaded->rule, reason, PACHALLU_WAY_MAX);
+    put_text(&c->out, "\n");
+}
+
 static void put_report(struct course *c) {
     put_released(c);
     put_list(c, "held     ", c->memory, c->held);
@@ -180,6 +213,7 @@ static void put_report(struct course *c) {
                  visible(c->book.text, c->book.text_len));
     else
         put_text(&c->out, "halted    nowhere\n");
+    put_why(c);
     if (c->not_taken)
         put_line(&c->out, "not taken %zu code%s, the first at code %zu, line %zu of the book:%s: %s\n", c->not_taken,
                  c->not_taken == 1 ? "" : "s", c->not_taken_at, c->not_taken_line, c->words[c->not_taken_code].text,
@@ -202,7 +236,7 @@ enum status command_run(const struct arguments *arguments) {
     static struct course c;
     enum status status = load_accepted(&arguments->rule, &loaded);
     if (status != DONE) return status;
-    c.loaded = &loaded;
+    c.loaded = c.reasons.loaded = &loaded;
     c.tell_each = arguments->tell_each;
     c.out = sink_to(STDOUT_FILENO);
     name_codes(&c);

@@ -12,7 +12,7 @@ mod monitor;
 mod plain;
 
 use dice::Dice;
-use library::{Answer, Evening, Made};
+use library::{Answer, Evening, Made, Reason};
 
 /// What is counted has no test for empty buffers (host/library.rs).
 pub const NULL_FOR_EMPTY: bool = false;
@@ -129,6 +129,26 @@ impl Bench {
 }
 
 impl Bench {
+    /// The reason of an event, with room for every way.
+    fn why(&mut self, case: &str, rule: &Rule, state: u8, event: u8, length: usize) {
+        let file = monitor::layout(rule);
+        let mut ways = [[99; 63]; 4];
+        let answers: [Reason; 3] = [
+            library::why(&file, state, event, &mut ways[0]),
+            plain::why(&file, state, event, &mut ways[1]),
+            plain::why_best(&file, state, event, &mut ways[2]),
+        ];
+        let second = monitor::why(&file, state, event, &mut ways[3]);
+        let agree = answers.iter().all(|a| *a == answers[0]) && ways.iter().all(|w| *w == ways[0]) && second.is_ok();
+        assert!(agree && answers[0].refusal == 0 && answers[0].length == length, "{}: {:?} and {:?}", case, answers, second);
+        let way = &mut ways[0][..];
+        let turns = [(); 3];
+        self.drive(case, "loop", &turns, |_| keep(&(unknown(&file), state, event)));
+        self.drive(case, "library", &turns, |_| keep(&library::why(unknown(&file), state, event, way)));
+        self.drive(case, "plain", &turns, |_| keep(&plain::why(unknown(&file), state, event, way)));
+        self.drive(case, "best", &turns, |_| keep(&plain::why_best(unknown(&file), state, event, way)));
+    }
+
     /// A lookup in two full books.
     fn finding(&mut self, case: &str, job: &[u8], office: &[u8], number: u8, age: u16) {
         let answers = [library::find(job, office, number, age), plain::find(job, office, number, age)];
@@ -229,6 +249,13 @@ fn self_loops() -> Rule {
     rule(3, rows, pairs)
 }
 
+/// The only way from state 0 to pair 0 goes through all states. The events below `on` stay where they are, and event 0 of state 0 always does.
+fn long_way(on: usize) -> Rule {
+    let rows = (0..64usize).map(|s| (0..32).map(|e| if e < on.max((s == 0) as usize) { s } else { (s + 1).min(63) }).collect()).collect();
+    let pairs = (0..8).map(|i| Pair { r: set(63 - 7 * i..64), p: if i % 2 == 1 { set(0..1 + i) } else { vec![] } }).collect();
+    rule(3, rows, pairs)
+}
+
 fn main() {
     let mut bench = Bench { last: 0 };
     let (setups, waiting) = (monitor::sheet(&setups()), monitor::sheet(&waiting()));
@@ -254,4 +281,9 @@ fn main() {
         bench.making(&format!("reading, {}", name), &rule, 0);
         bench.making(&format!("making a sheet, {}", name), &rule, 2054);
     }
+    bench.why("why, a way of 63", &long_way(0), 0, 0, 63);
+    bench.why("why, a way of 63 by the last event", &long_way(31), 0, 0, 63);
+    let near = |e: &u8| monitor::reason(&monitor::layout(&by_chance()), 0, *e).map_or(0, |x| x.way.len()) == 1;
+    bench.why("why, a way of 1, random", &by_chance(), 0, (0..32).find(near).unwrap_or(0), 1);
+    bench.why("why, a way of 1, chain", &long_way(0), 61, 0, 1);
 }

@@ -7,7 +7,8 @@
 //! be equal; each history on a made sheet is judged by the oracle; what the program `table` prints is compared where
 //! the environment variable PACHALLU_TABLE holds the shell words that start it. An evening of events in one call is
 //! compared with the second monitor and with the library's own single calls. The run fails, too, where one of the
-//! refusals 1 to 9, 11 to 18 and 26, or, of evenings, 19 and 11 to 16, was met fewer than 20 times.
+//! refusals 1 to 9, 11 to 18 and 26, or, of evenings, 19 and 11 to 16, or, of reasons, 1 to 9, 12, 13 and 16, was met
+//! fewer than 20 times.
 
 mod books;
 mod dice;
@@ -15,6 +16,7 @@ mod draw;
 mod library;
 mod monitor;
 mod oracle;
+mod reasons;
 
 use dice::Dice;
 use draw::Lent;
@@ -156,6 +158,7 @@ struct Comparison {
     /// The rule file that the calls at hand go back to.
     file: Vec<u8>,
     books: books::BookCounts,
+    reasons: reasons::ReasonCounts,
 }
 
 impl Comparison {
@@ -342,7 +345,7 @@ impl Comparison {
             Err(_) => {
                 let room = dice.pick(&[0, 5, 40, 2054, 2100]);
                 self.make(dice, file, room)?;
-                return Ok(());
+                return self.why_refused(dice, file);
             }
         };
         self.counts.sound[rule.class] += 1;
@@ -360,6 +363,7 @@ impl Comparison {
         if made.written != size {
             return Err(format!("a sheet of {} bytes was expected, {} were written", size, made.written));
         }
+        self.whys(dice, &rule, file, sheet.bytes())?;
         for _ in 0..3 {
             self.history(dice, &rule, &sheet)?;
         }
@@ -679,6 +683,7 @@ impl Comparison {
         if first.refusal != 15 || second.refusal != 0 || second.released != 1 || output.bytes()[0] != 2 {
             return Err(format!("rule A with a memory of length 0: {:?}, then {:?}", first, second));
         }
+        self.whys_of_the_paper(dice, &a, &o)?;
         self.edges(dice, &a, &d)
     }
 
@@ -868,7 +873,7 @@ fn main() {
         exit(2);
     });
     let table = std::env::var("PACHALLU_TABLE").ok().filter(|words| !words.trim().is_empty());
-    let mut comparison = Comparison { counts: Counts::default(), table, file: vec![], books: Default::default() };
+    let mut comparison = Comparison { counts: Counts::default(), table, file: vec![], books: Default::default(), reasons: Default::default() };
     let fail = |fault: &str, file: &[u8], said: &str, rerun: &str| -> ! {
         let shown = if file.len() > 4096 { &file[file.len() - 4096..] } else { file };
         eprintln!("host: the proved side and the second monitor do not agree\n  {}\n  rule file {} {}", fault, said, hex(shown));
@@ -899,6 +904,7 @@ fn main() {
     let c = &comparison.counts;
     report(c);
     books::report(&comparison.books);
+    reasons::report(&comparison.reasons);
     let printing = comparison.table.is_some();
     let printed = c.printed_sound.iter().sum::<usize>() + c.printed_refused.iter().sum::<usize>() + c.printed_other;
     if printing {
@@ -915,6 +921,7 @@ fn main() {
     if order.only.is_none() {
         let mut faults = lacking(c, printing);
         faults.extend(books::lacking(&comparison.books));
+        faults.extend(reasons::lacking(&comparison.reasons));
         if !faults.is_empty() {
             eprintln!("host: the comparison did not try enough\n  {}", faults.join("\n  "));
             exit(1);

@@ -55,6 +55,17 @@ pub struct Evening {
     pub released: usize,
 }
 
+#[repr(C)]
+#[derive(Clone, Copy, PartialEq, Eq, Debug)]
+pub struct Reason {
+    pub refusal: u8,
+    pub a: u8,
+    pub b: u8,
+    pub operation: u8,
+    pub pair: u8,
+    pub length: usize,
+}
+
 extern "C" {
     fn pachallu_make(rule: *const u8, rule_len: usize, sheet: *mut u8, sheet_len: usize) -> Made;
     fn pachallu_print(rule: *const u8, rule_len: usize, text: *mut u8, text_len: usize) -> Made;
@@ -92,6 +103,7 @@ extern "C" {
         output: *mut u8,
         output_len: usize,
     ) -> Evening;
+    fn pachallu_why(rule: *const u8, rule_len: usize, state: u8, event: u8, way: *mut u8, way_len: usize) -> Reason;
 }
 
 /// Where a buffer starts. NULL for an empty one where the program says so: C++ callers pass it (an empty vector's data()), and the header permits it.
@@ -171,4 +183,9 @@ pub fn events(sheet: &[u8], state: u8, held: usize, log: &[u8], memory: &mut [u8
             output.len(),
         )
     }
+}
+
+#[inline(always)]
+pub fn why(rule: &[u8], state: u8, event: u8, way: &mut [u8]) -> Reason {
+    unsafe { pachallu_why(start(rule), rule.len(), state, event, start_mut(way), way.len()) }
 }

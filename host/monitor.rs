@@ -557,6 +557,102 @@ pub fn events(sheet: &[u8], run: Run, log: &[u8], memory: &mut [u8], output: &mu
     evening
 }
 
+// ---------------------------------------------------------------------------------------------- why
+
+/// Why an event is answered as it is (M-102): the operation, the pair that is its ground, and the events of the way that meets the pair. A dump has no
+/// ground, a halt no way.
+#[derive(Clone, PartialEq, Eq, Debug)]
+pub struct Reason {
+    pub operation: Operation,
+    pub pair: usize,
+    pub way: Vec<u8>,
+}
+
+/// Is the state in R or in P of the pair?
+fn met(pair: &Pair, s: usize) -> bool {
+    pair.r.contains(&s) || pair.p.contains(&s)
+}
+
+/// So many states that a sequence of at most N - 1 events can be looked for among all sequences.
+const FEW: usize = 6;
+
+/// The lowest sequence of exactly so many events that leads from s to a goal, among all of them.
+fn tried(rule: &Rule, s: usize, count: usize, goal: &[bool]) -> Option<Vec<u8>> {
+    if count == 0 {
+        return if goal[s] { Some(vec![]) } else { None };
+    }
+    for (e, &t) in rule.rows[s].iter().enumerate() {
+        if let Some(rest) = tried(rule, t, count - 1, goal) {
+            return Some([vec![e as u8], rest].concat());
+        }
+    }
+    None
+}
+
+/// The same by keeping, of each length, the lowest sequence to every state that no shorter one leads to, lowest first.
+fn searched(rule: &Rule, from: usize, goal: &[bool]) -> Option<Vec<u8>> {
+    let mut known = vec![false; rule.states];
+    known[from] = true;
+    let mut layer = vec![(from, vec![])];
+    while !layer.is_empty() {
+        if let Some((_, way)) = layer.iter().find(|(s, _)| goal[*s]) {
+            return Some(way.clone());
+        }
+        let mut next = Vec::new();
+        for (s, way) in &layer {
+            for (e, &t) in rule.rows[*s].iter().enumerate() {
+                if !known[t] {
+                    known[t] = true;
+                    next.push((t, [&way[..], &[e as u8]].concat()));
+                }
+            }
+        }
+        layer = next;
+    }
+    None
+}
+
+/// The shortest sequence of events from a state to a goal, the lowest in event order among equals. On a small rule all sequences are tried.
+pub fn way(rule: &Rule, from: usize, goal: &[bool]) -> Option<Vec<u8>> {
+    let searched = searched(rule, from, goal);
+    if rule.states <= FEW {
+        let tried = (0..rule.states).find_map(|count| tried(rule, from, count, goal));
+        assert_eq!(tried, searched, "the two searches of the second monitor differ");
+        return tried;
+    }
+    searched
+}
+
+/// The reason at the state after the event: refusals 1 to 10 of the rule, 12 and 13.
+pub fn reason(file: &[u8], state: u8, event: u8) -> Result<Reason, Refusal> {
+    let rule = read(file)?;
+    let (s, e) = (state as usize, event as usize);
+    if s >= rule.states {
+        return refuse(12);
+    }
+    if e >= rule.events {
+        return refuse(13);
+    }
+    let t = rule.rows[s][e];
+    let ways: Vec<Option<Vec<u8>>> =
+        rule.pairs.iter().map(|pair| way(&rule, t, &(0..rule.states).map(|s| met(pair, s)).collect::<Vec<_>>())).collect();
+    // no way: the pair is lost; a way of no events: it is met
+    let lost = ways.iter().position(|way| way.is_none());
+    let unmet = ways.iter().position(|way| way.as_ref().map_or(true, |way| !way.is_empty()));
+    Ok(match (lost, unmet) {
+        (Some(pair), _) => Reason { operation: Operation::Halt, pair, way: vec![] },
+        (None, Some(pair)) => Reason { operation: Operation::Store, pair, way: ways[pair].clone().unwrap_or_default() },
+        (None, None) => Reason { operation: Operation::Dump, pair: 0, way: vec![] },
+    })
+}
+
+/// The reason, with its way at the front of the output: refusals 1 to 10, 12, 13, 16.
+pub fn why(file: &[u8], state: u8, event: u8, output: &mut [u8]) -> Result<Reason, Refusal> {
+    let reason = reason(file, state, event)?;
+    put(&reason.way, output)?;
+    Ok(reason)
+}
+
 // ---------------------------------------------------------------------------------------------- the printed monitor
 
 /// What the program `table` prints for a rule file.

@@ -1,9 +1,9 @@
 //! The library's calls in plain Rust with the same checks and the same answers: the other side of the benchmark.
 //!
-//! `read`, `make`, `event` and `events` are written as one would write them from the paper; `read_best` and `make_best` use the
-//! best algorithms we know. Sets of states are 64-bit numbers throughout.
+//! `read`, `make`, `event`, `events` and `why` are written as one would write them from the paper; `read_best`, `make_best` and
+//! `why_best` use the best algorithms we know. Sets of states are 64-bit numbers throughout.
 
-use crate::library::{Answer, Evening, Found, Made};
+use crate::library::{Answer, Evening, Found, Made, Reason};
 
 #[derive(Clone, Copy)]
 pub struct Refusal {
@@ -206,12 +206,12 @@ impl<'a> Drawing<'a> {
         Ok((rule, follow))
     }
 
-    /// The states that reach a set: backwards from it, by a worklist.
-    fn reaching(come: &[u64; 64], set: u64) -> u64 {
+    /// What a set grows to by the neighbours of its states, by a worklist: given those that lead to a state, the states that reach the set.
+    fn reaching(neighbours: &[u64; 64], set: u64) -> u64 {
         let mut met = set;
         let mut todo = set;
         while todo != 0 {
-            let fresh = come[todo.trailing_zeros() as usize] & !met;
+            let fresh = neighbours[todo.trailing_zeros() as usize] & !met;
             todo = (todo & (todo - 1)) | fresh;
             met |= fresh;
         }
@@ -291,6 +291,138 @@ pub fn make(file: &[u8], sheet: &mut [u8]) -> Made {
 #[inline(never)]
 pub fn make_best(file: &[u8], sheet: &mut [u8]) -> Made {
     made(make_backwards(file, sheet))
+}
+
+// ---------------------------------------------------------------------------------------------- why
+
+/// A forward breadth-first search, events rising: the states in the order in which they are met, each with the place of the state that it was met
+/// from and the event. So a state is met first by its shortest way, and by the lowest of these.
+struct Search {
+    met: u64,
+    count: usize,
+    state: [u8; 64],
+    from: [u8; 64],
+    by: [u8; 64],
+}
+
+impl Search {
+    fn at(start: usize) -> Search {
+        let mut search = Search { met: 1 << start, count: 1, state: [0; 64], from: [0; 64], by: [0; 64] };
+        search.state[0] = start as u8;
+        search
+    }
+
+    /// Looks at the moves of the state at a place. Is a state of the goal among the new ones?
+    #[inline(always)]
+    fn look(&mut self, place: usize, row: &[u8], goal: u64) -> bool {
+        for (e, &t) in row.iter().enumerate() {
+            if !has(self.met, t as usize) {
+                self.met |= 1 << t;
+                self.state[self.count] = t;
+                self.from[self.count] = place as u8;
+                self.by[self.count] = e as u8;
+                self.count += 1;
+                if has(goal, t as usize) {
+                    return true;
+                }
+            }
+        }
+        false
+    }
+
+    /// Puts the way to the last state at the front of the output: refusal 16.
+    fn put(&self, way: &mut [u8]) -> Checked<usize> {
+        let mut length = 0;
+        let mut place = self.count - 1;
+        while place != 0 {
+            length += 1;
+            place = self.from[place] as usize;
+        }
+        if length > way.len() {
+            return refused(16, 0, 0);
+        }
+        place = self.count - 1;
+        for event in way[..length].iter_mut().rev() {
+            *event = self.by[place];
+            place = self.from[place] as usize;
+        }
+        Ok(length)
+    }
+}
+
+impl<'a> Drawing<'a> {
+    /// The state after the event: refusals 12 and 13.
+    fn target(&self, state: u8, event: u8) -> Checked<usize> {
+        if state as usize >= self.n {
+            return refused(12, 0, 0);
+        }
+        if event as usize >= self.k {
+            return refused(13, 0, 0);
+        }
+        Ok(self.row(state as usize)[event as usize] as usize)
+    }
+
+    /// The operation at t and its pair, from the states that t reaches.
+    fn ground(&self, t: usize, reached: u64) -> (u8, usize) {
+        let unmet = |pair: &Pair| !has(pair.r | pair.p, t);
+        if let Some(i) = self.pairs().iter().position(|pair| unmet(pair) && (pair.r | pair.p) & reached == 0) {
+            return (0, i);
+        }
+        self.pairs().iter().position(unmet).map_or((2, 0), |i| (1, i))
+    }
+}
+
+fn why_plainly(file: &[u8], state: u8, event: u8, way: &mut [u8]) -> Checked<(u8, usize, usize)> {
+    let rule = Drawing::read(file)?;
+    let t = rule.target(state, event)?;
+    let (operation, i) = rule.ground(t, rule.reached(t));
+    if operation != 1 {
+        return Ok((operation, i, 0));
+    }
+    let goal = rule.pairs[i].r | rule.pairs[i].p;
+    let mut search = Search::at(t);
+    let mut place = 0;
+    while !search.look(place, rule.row(search.state[place] as usize), goal) {
+        place += 1;
+    }
+    Ok((1, i, search.put(way)?))
+}
+
+/// The same with the row masks that reading made: a row that leads to no new state is not looked at.
+fn why_by_masks(file: &[u8], state: u8, event: u8, way: &mut [u8]) -> Checked<(u8, usize, usize)> {
+    let (rule, follow) = Drawing::read_best(file)?;
+    let t = rule.target(state, event)?;
+    let (operation, i) = rule.ground(t, Drawing::reaching(&follow, 1 << t));
+    if operation != 1 {
+        return Ok((operation, i, 0));
+    }
+    let goal = rule.pairs[i].r | rule.pairs[i].p;
+    let mut search = Search::at(t);
+    let mut place = 0;
+    loop {
+        let s = search.state[place] as usize;
+        if follow[s] & !search.met != 0 && search.look(place, rule.row(s), goal) {
+            return Ok((1, i, search.put(way)?));
+        }
+        place += 1;
+    }
+}
+
+fn reason(answer: Checked<(u8, usize, usize)>) -> Reason {
+    match answer {
+        Ok((operation, pair, length)) => Reason { refusal: 0, a: 0, b: 0, operation, pair: pair as u8, length },
+        Err(r) => Reason { refusal: r.no, a: r.a, b: r.b, operation: 0, pair: 0, length: 0 },
+    }
+}
+
+#[inline(never)]
+pub fn why(file: &[u8], state: u8, event: u8, way: &mut [u8]) -> Reason {
+    reason(why_plainly(file, state, event, way))
+}
+
+#[inline(never)]
+pub fn why_best(file: &[u8], state: u8, event: u8, way: &mut [u8]) -> Reason {
+    reason(why_by_masks(file, state, event, way))
 }
 
 // ---------------------------------------------------------------------------------------------- one event

@@ -31,6 +31,15 @@
  * the held bytes alone. The memory's other bytes are yours between calls. Several runs may share one sheet; each has its own
  * state, held and memory. The calls are safe in several threads at once as long as no buffer that is written is shared.
  *
+ * pachallu_why says why an event is answered as it is: for a rule file, a state and an event it names the operation and the ground for it, both
+ * judged at the state after the event. A pair is met at a state of its R or P.
+ *
+ *     halt    the lowest pair that is not met there and that no further events can meet
+ *     store   the lowest pair not yet met there, and the shortest sequence of further events that meets it, the lowest in event order among
+ *             equals: way[0] to way[length - 1], one event to 63. Taken after the event they meet the pair; in a rule of one pair the last of
+ *             them is a dump, and all that was held goes out
+ *     dump    no ground is needed
+ *
  * A RULE BOOK keeps rule files under numbers from 0 to 255; docs/FORMATS.md has its bytes. Two bytes 0 are the book of no rules.
  * pachallu_add writes a book with one rule more. A number may be added again: the latest rule is in force, at age 0, and the ones
  * before it stay readable at age 1, 2 and so on. pachallu_find looks a number up in a job's book and, where that has none, in the
@@ -52,12 +61,13 @@
  *   - `const` buffers are only read.
  *   - Nothing outside of what an answer names is written: pachallu_make writes sheet[0] to sheet[written - 1],
  *     pachallu_add out[0] to out[written - 1]; a store writes the one byte memory[held] (held as it was given); a dump writes
- *     output[0] to output[released - 1]; a halt and pachallu_find write nothing.
+ *     output[0] to output[released - 1]; a halt and pachallu_find write nothing; pachallu_why writes way[0] to way[length - 1].
  *
  * A REFUSAL (`refusal` not 0) changes no byte of any buffer. A refused make or add has written 0; a refused find has book, start
  * and length 0 (a rule that was found may have length 0 too: look at `refusal`); a refused start has state 0 and held 0; a
- * refused event returns the state and held that it was given, with operation 0 and released 0: look at `refusal` before
- * `operation`. A refused event is not taken: the same or another one may be offered next, for instance with a longer output.
+ * refused event returns the state and held that it was given, with operation 0 and released 0; a refused why has operation, pair and
+ * length 0: look at `refusal` before `operation`. A refused event is not taken: the same or another one may be offered next, for instance with
+ * a longer output.
  * `a` and `b` are the two places of the table below, 0 where none is named.
  * pachallu_events keeps what came before the event that was refused: its state, held, taken and released, the memory and the output
  * are those that the events taken left, and the refused event, log[taken], changed nothing. With refusal 19, or for an empty log, nothing
@@ -78,11 +88,11 @@
  *     10   a pair with R and P both empty                                                    pair
  *     11   this is no sheet: length, mark, sizes or initial state are wrong
  *     12   this is no run state of the sheet: state too great, or more held than the memory
- *          is long
+ *          is long; for pachallu_why: the rule has no such state
  *     13   the event is not one of the rule's
  *     14   the sheet's cell is spoiled                                                       state, event
  *     15   to be stored, but the memory is full
- *     16   the output has too little room
+ *     16   the output has too little room (for pachallu_why: the way)
  *     17   this is no rule book: its count is missing or over 1,024, the directory is        0 the job's book, 1 the office's;
  *          longer than the book, an entry's second byte is not 0, or the rules, in the       0 for the book of pachallu_add
  *          order of the entries, do not exactly fill the book up to the directory
@@ -92,6 +102,7 @@
  *
  * pachallu_make gives 1 to 10, then 16; pachallu_fresh gives 11; pachallu_event gives 11 to 16;
  * pachallu_events gives 19, then 11 and 12 (of an empty log too), then 13 to 16 of each event in turn; always the first that holds.
+ * pachallu_why gives 1 to 10, 12 for the state, 13 for the event, then 16, in this order.
  * pachallu_find gives 17, then 18; pachallu_add gives 17, 1 to 10, 26, then 16, in this order.
  * pachallu_print tells 1 to 10 in its text, and gives 16. pachallu_refusal_text puts a number into words.
  *
@@ -122,10 +133,13 @@ extern "C" {
 #define PACHALLU_BOOK_RULES_MAX 1024
 #define PACHALLU_BOOK_MAX 67116034
 
+/* The longest way of pachallu_why. */
+#define PACHALLU_WAY_MAX 63
+
 /* The longest log of pachallu_events. */
 #define PACHALLU_LOG_MAX 4096
 
-/* pachallu_answer.operation */
+/* pachallu_answer.operation and pachallu_reason.operation */
 #define PACHALLU_HALT 0
 #define PACHALLU_STORE 1
 #define PACHALLU_DUMP 2
@@ -161,6 +175,14 @@ typedef struct {
     size_t released; /* bytes at the front of the output */
 } pachallu_evening;
 
+typedef struct {
+    uint8_t refusal;   /* 0: answered */
+    uint8_t a, b;      /* places of a refusal */
+    uint8_t operation; /* PACHALLU_HALT, PACHALLU_STORE or PACHALLU_DUMP: that of the sheet's cell */
+    uint8_t pair;      /* the ground of a halt or a store: an accepting pair, the first is 0; 0 for a dump */
+    size_t length;     /* events at the front of the way: 1 to 63 for a store, else 0 */
+} pachallu_reason;
+
 /* Makes the sheet of a rule file. PACHALLU_SHEET_MAX bytes of room are always enough. */
 pachallu_made pachallu_make(const uint8_t *rule, size_t rule_len, uint8_t *sheet, size_t sheet_len);
 
@@ -194,6 +216,10 @@ pachallu_made pachallu_add(const uint8_t *book, size_t book_len, uint8_t number,
 pachallu_evening pachallu_events(const uint8_t *sheet, size_t sheet_len, uint8_t state, size_t held, const uint8_t *log, size_t log_len,
                                  uint8_t *memory, size_t memory_len, uint8_t *output, size_t output_len);
 
+/* Says why the event is answered as it is in the state, and which events would meet the pair that a store waits for. PACHALLU_WAY_MAX bytes of room are
+ * always enough. */
+pachallu_reason pachallu_why(const uint8_t *rule, size_t rule_len, uint8_t state, uint8_t event, uint8_t *way, size_t way_len);
+
 /* Prints a rule file's monitor, or its refusal, as the program table does. 16 where the text does not fit; PACHALLU_TEXT_MAX bytes are always enough. */
 pachallu_made pachallu_print(const uint8_t *rule, size_t rule_len, uint8_t *text, size_t text_len);
 
@@ -212,7 +238,7 @@ static inline const char *pachallu_refusal_text(uint8_t refusal) {
         "from the initial state nothing can ever be accepted (by pair A)",
         "R and P of pair A are both empty",
         "this is no sheet",
-        "this is no run state of the sheet",
+        "this is no run state of the sheet, or no state of the rule",
         "the event is not one of the rule's",
         "the sheet is spoiled at state A, event B",
         "the event is to be held, and the memory is full",

@@ -4,7 +4,8 @@
  *
  * FILE is a drawing (.draw), a rule file (.rule) or a rule book (.rules). The same changes every time, as many as the time allows.
  * Of every drawing that is accepted: its rule file, written as text and read again, is the same file. Of every rule file that is
- * accepted: the same. Of every rule book: it is listed or its fault is told, and each entry is found by its number and age.
+ * accepted: the same, and the reasons of some of its moves are what they should be. Of every rule book: it is listed or its fault
+ * is told, and each entry is found by its number and age.
  */
 #include <stdio.h>
 #include <stdlib.h>
@@ -14,6 +15,7 @@
 #include "../book.h"
 #include "../drawing.h"
 #include "../text.h"
+#include "../why.h"
 #include "../words.h"
 
 enum { SEEDS = 1000, LONGEST = 20000 };
@@ -69,12 +71,37 @@ static void round_trip(const struct loaded *loaded, const uint8_t *input, size_t
     sink_free(&out);
 }
 
+/* Of some moves of an accepted rule: the reason has the sheet's operation, and its way meets the pair at its end and not before. */
+static void try_reasons(const struct loaded *loaded, const uint8_t *input, size_t len) {
+    static struct reasons reasons;
+    const struct rule *rule = &loaded->rule;
+    struct sink out = sink_to(-1);
+    memset(&reasons, 0, sizeof reasons);
+    reasons.loaded = loaded;
+    for (int i = 0; i < 3; i++) {
+        size_t cell = dice(rule->states * rule->codes), state = rule->table[cell];
+        const struct reason *reason = reason_at(&reasons, state);
+        const uint64_t met = rule->r[reason->told.pair] | rule->p[reason->told.pair];
+        if (reason->told.refusal || reason->told.operation != loaded->sheet[cell] / 64)
+            fail("a reason has another operation", input, len);
+        for (size_t at = 0; at < reason->told.length; state = move_of(rule, state, reason->way[at++]))
+            if (in_set(met, state)) fail("a way goes on where its pair is met", input, len);
+        if (in_set(met, state) != (reason->told.operation == PACHALLU_STORE) && reason->told.operation != PACHALLU_DUMP)
+            fail("a way does not meet its pair, or a lost pair is met", input, len);
+        put_reason(&out, rule, reason);
+    }
+    for (size_t i = 0; i < out.used; i++)
+        if (out.bytes[i] < 32 && out.bytes[i] != '\n') fail("a reason has a control byte", input, len);
+    sink_free(&out);
+}
+
 static void judge_and_tell(struct loaded *loaded, const uint8_t *input, size_t len) {
     char words[REFUSAL_WORDS];
     judge(loaded);
     if (loaded->made.refusal == 0) {
         accepted++;
         round_trip(loaded, input, len);
+        try_reasons(loaded, input, len);
     } else {
         refusal_words(loaded, words);
         no_control_bytes(words, input, len);

@@ -12,7 +12,7 @@ use Rattle.octets.specs.Numbers as numbers
 use Rattle.octets.specs.Numbers.{digits}
 use Rattle.rule.specs.Range.{inRange}
 use Rattle.rule.specs.Sets.{has, including, Members}
-use Rattle.rule.specs.Reach.{placeOf, target, reachedWithin, reachedSets}
+use Rattle.rule.specs.Reach.{placeOf, target, withMoves, reachedWithin, reachedSets}
 use Rattle.rule.specs.Drawing.{body}
 use Rattle.rule.specs.Operations.{markOf, valueOf, smallestOf, operationsOf}
 use Rattle.rule.specs.Stopping.{stopsBy}
@@ -34,8 +34,9 @@ use Rattle.rule.specs.declared.Operation.the-variants.{Halt}
 use Rattle.monitor.specs.Fresh.{startOf}
 use Rattle.monitor.specs.Event.{EventPromise}
 use Rattle.monitor.specs.Evening.{EveningPromise}
+use Rattle.why.specs.Why.{WhyPromise}
 use Rattle.printed.specs.Printing.{PrintPromise}
-use Rattle.pachallu.specs.Told.{MakeForC, PrintForC, FindForC, AddForC, FreshForC, EventForC, EveningForC}
+use Rattle.pachallu.specs.Told.{MakeForC, PrintForC, FindForC, AddForC, FreshForC, EventForC, EveningForC, WhyForC}
 use Rattle.rulefile.proofs as rulefile
 use Rattle.reading.proofs as reading
 use Rattle.writing.proofs as writing
@@ -44,6 +45,7 @@ use Rattle.making.proofs as making
 use Rattle.sheet.proofs as sheet
 use Rattle.monitor.proofs as monitor
 use Rattle.effects.proofs as effects
+use Rattle.why.proofs as why
 use Rattle.printed.proofs as printed
 use Rattle.pachallu.proofs as pachallu
 use Rattle.trailer.proofs as trailer
@@ -85,6 +87,10 @@ add-keeps κs a x = x .told
 
 pub make-keeps : Keeps making.make.ended making.make.Reads.Learnt λ κs a r l. MakePromise (now (a .0)) (now (a .1 .0)) r (l .1 .0)
 make-keeps κs a x = x .told
+
+pub why-keeps : Keeps why.why.ended why.why.Reads.Learnt λ κs a r l.
+    WhyPromise (now (a .0)) (a .1 .0 .0) (a .1 .1 .0 .0) (now (a .1 .1 .1 .0)) r (l .1 .1 .1 .0)
+why-keeps κs a x = x .told
 
 pub open-keeps : Keeps sheet.open.ended sheet.open.Reads.Learnt λ κs a r l. r ≡ openedOf (now (a .0))
 open-keeps κs a x = x .told
@@ -150,6 +156,10 @@ pub pachallu-events-keeps : Keeps pachallu.pachallu_events.ended pachallu.pachal
     EveningForC (now (a .0)) (a .1 .0) (a .1 .1 .0) (now (a .1 .1 .1 .0)) (now (a .1 .1 .1 .1 .0)) (now (a .1 .1 .1 .1 .1 .0)) r
     (l .1 .1 .1 .1 .0) (l .1 .1 .1 .1 .1 .0)
 pachallu-events-keeps κs a x = x .told
+
+pub pachallu-why-keeps : Keeps pachallu.pachallu_why.ended pachallu.pachallu_why.Reads.Learnt λ κs a r l.
+    WhyForC (now (a .0)) (a .1 .0) (a .1 .1 .0) (now (a .1 .1 .1 .0)) r (l .1 .1 .1 .0)
+pachallu-why-keeps κs a x = x .told
 
 -- the checks that they are built of
 
@@ -218,6 +228,10 @@ insert-keeps κs a x = x .told
 
 pub next-keeps : Keeps reach.next.ended reach.next.Reads.Learnt λ κs a r l. r .0 ≡ target (now (a .0)) (a .1 .0) (a .1 .1 .0 .0) (a .1 .1 .1 .0 .0)
 next-keeps κs a x = x .told
+
+pub with-moves-keeps : Keeps reach.with_moves.ended reach.with_moves.Reads.Learnt λ κs a r l.
+    r ≡ withMoves (now (a .0)) (a .1 .0) (a .1 .1 .0 .0) (a .1 .1 .1 .0) (a .1 .0)
+with-moves-keeps κs a x = x .told
 
 pub reached-within-keeps : Keeps reach.reached_within.ended reach.reached_within.Reads.Learnt λ κs a r l.
     r ≡ reachedWithin (now (a .0)) (a .1 .0) (a .1 .1 .0) (a .1 .1 .1 .0 .0) (a .1 .1 .1 .1 .0)

@@ -18,9 +18,11 @@ use Rattle.monitor.specs.Event.{turnOf}
 use Rattle.monitor.proofs.FreshLaws.{open-ends, fresh-ends}
 use Rattle.monitor.proofs.GivenLaws.{event-ends}
 use Rattle.monitor.proofs.EveningGivenLaws.{evening-one, evening-ends}
+use Rattle.why.proofs.GivenLaws.{why-ends}
+use Rattle.why.proofs.OneAnswer.{ground-one}
 use Rattle.printed.specs.Printing.{textOf}
 use Rattle.printed.proofs.GivenLaws.{print-ends}
-use Rattle.pachallu.proofs.EndsLaws.{c-put-ends, c-find-ends, c-fresh-ends, c-event-ends, c-evening-ends}
+use Rattle.pachallu.proofs.EndsLaws.{c-put-ends, c-find-ends, c-fresh-ends, c-event-ends, c-evening-ends, c-why-ends}
 use Rattle.demands.specs.Demand1.{Demand1}
 
 pub demand-1 : Demand1
@@ -37,6 +39,8 @@ demand-1 =
       put-file = λ d out w out′ p. only-room-ends p;
       one-make = λ f out. put-one (verdictOn f) (sheetOf (drawingIn f)) out;
       make = λ f out w out′ p. make-ends p;
+      one-why = λ f s e out g h out₁ out₂ p q. ground-one p q;
+      why = λ f s e out g out′ p. why-ends p;
       opening = open-ends;
       fresh = fresh-ends;
       one-event = λ sheet run e memory output. turn-one (turnOf sheet run e memory output) run e memory output;
@@ -54,6 +58,7 @@ demand-1 =
       c-fresh = λ sheet r p. c-fresh-ends p;
       c-event = λ sheet state held event memory output r memory′ output′ p. c-event-ends p;
       c-evening = λ sheet state held log memory output r memory′ output′ p. c-evening-ends p;
+      c-why = λ rule state event way r way′ p. c-why-ends p;
       shape = shape-gives;
       head = head-gives;
       check = checked-gives;

@@ -4,6 +4,7 @@ pub mod Demand2
 pub mod Demand3
 pub mod Found
 pub mod Evening
+pub mod Why
 -- they are about the code that is built: each function's contract says what they say of it
 pub mod Contracts
 -- what a made sheet has; the calls of a C program are a history

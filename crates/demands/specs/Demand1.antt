@@ -46,15 +46,20 @@ use Rattle.monitor.specs.Event.{EventPromise}
 use Rattle.monitor.specs.Evening.{EveningPromise}
 use Rattle.monitor.specs.Given.{FreshRow, freshOrder, EventRow, eventOrder, EveningRow, eveningOrder, EveningKept}
 use Rattle.monitor.specs.declared.Evening.{Evening}
+use Rattle.why.specs.Given.{Asking, whyOrder}
+use Rattle.why.specs.Why.{WhyPromise, groundTold}
+use Rattle.why.specs.declared.Ground.{Ground}
 use Rattle.printed.specs.Printing.{PrintPromise, Printing, printingOrder}
 use Rattle.pachallu.specs.Told.{MakeForC, PrintForC, AddForC, FindForC, FreshForC, EventForC, runOf}
 use Rattle.pachallu.specs.Told.{madeTold, foundTold, startedTold, answeredTold, PutKept, FindKept, FreshKept, EventKept}
 use Rattle.pachallu.specs.Told.{EveningForC, eveningTold, EveningKeptForC}
+use Rattle.pachallu.specs.Told.{WhyForC, reasonTold, WhyKept}
 use Rattle.pachallu.specs.declared.Made.{Made}
 use Rattle.pachallu.specs.declared.Found.{Found}
 use Rattle.pachallu.specs.declared.Started.{Started}
 use Rattle.pachallu.specs.declared.Answered.{Answered}
 use Rattle.pachallu.specs.declared.Evening.{Evening as EveningTold}
+use Rattle.pachallu.specs.declared.Reason.{Reason}
 
 pub record Demand1 : Type 0 where
   -- a rule file, looked at and read: 1 to 10; refused, 0 in every place
@@ -78,6 +83,11 @@ pub record Demand1 : Type 0 where
   -- a sheet, made: 1 to 10, then 16; refused, the output as it was
   pub one-make : (f out : List ℕ) → OneWritten (MakePromise f out)
   pub make : (f out : List ℕ) (w : Written) (out′ : List ℕ) → MakePromise f out w out′ → Ends (Making f (length out)) makingOrder (writtenTold w) (out′ ≡ out)
+  -- why an event is answered as it is: 1 to 10, 12, 13, then 16; refused, the output as it was
+  pub one-why : (f : List ℕ) (s e : ℕ) (out : List ℕ) (g h : Ground) (out₁ out₂ : List ℕ) → WhyPromise f s e out g out₁ → WhyPromise f s e out h out₂
+      → (g ≡ h) × (out₁ ≡ out₂)
+  pub why : (f : List ℕ) (s e : ℕ) (out : List ℕ) (g : Ground) (out′ : List ℕ) → WhyPromise f s e out g out′
+      → Ends (Asking f s e (length out)) whyOrder (groundTold g) (out′ ≡ out)
   -- a sheet, opened, and a run started on it: 11; refused, state 0 with nothing held
   pub opening : (sheet : List ℕ) → Ends (FreshRow sheet) freshOrder (openedTold (openedOf sheet)) (openedOf sheet ≡ Shut)
   pub fresh : (sheet : List ℕ) → Ends (FreshRow sheet) freshOrder (verdictTold (startOf sheet .verdict)) (startOf sheet .run ≡ freshRun (stateNo 0))
@@ -119,6 +129,8 @@ pub record Demand1 : Type 0 where
       → EveningForC sheet state held log memory output r memory′ output′
       → Ends (EveningRow sheet (runOf state held) log memory output) eveningOrder (eveningTold r)
       (EveningKeptForC sheet state held log memory output r memory′ output′)
+  pub c-why : (rule : List ℕ) (state event : ℕ) (way : List ℕ) (r : Reason) (way′ : List ℕ) → WhyForC rule state event way r way′
+      → Ends (Asking rule state event (length way)) whyOrder (reasonTold r) (WhyKept way r way′)
   -- the checks alone, of a shape, a trailer, and a table with its pairs, give no other number than these
   pub shape : (s : Shape) (x : Refusal) → firstOf (shapeConditions s) ≡ Unsound x → Numbered shapeOrder x
   pub head : (t : Trailer) (size : ℕ) (x : Refusal) → firstOf (headConditions t size) ≡ Unsound x → Numbered headOrder x

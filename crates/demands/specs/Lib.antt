@@ -4,6 +4,8 @@ pub mod Demand2
 pub mod Demand3
 -- M-101: an evening of events in one call
 pub mod Evening
+-- M-102: why an event is answered as it is
+pub mod Why
 -- what they speak of: a sheet made by this build, and the calls of a C program
 pub mod Made
 pub mod FromC

@@ -15,7 +15,7 @@ use Rattle.rule.specs.declared.Operation.{Operation}
 use Rattle.rule.specs.declared.Operation.the-variants.{Halt, Store, Dump}
 use Rattle.history.specs.Course.{Entry, codes, untilHalt, beforeHalt, releasedBy, heldBy, Course, start, step, Longest, Kept, KeptSharp}
 
-codes-append : (a b : List Entry) → codes (a ++ b) ≡ codes a ++ codes b
+pub codes-append : (a b : List Entry) → codes (a ++ b) ≡ codes a ++ codes b
 codes-append [] b = refl
 codes-append (x ∷ a) b = ap (λ (l : List ℕ). x .code ∷ l) (codes-append a b)
 
@@ -260,3 +260,35 @@ module _ (m : Machine) where
         )
         ∙ stays-halted L _ rest (right-valid L (m .initial) before rest (entry e Halt) (L .initial-in) right)
         (sym (right-at (m .initial) before rest (entry e Halt) right)) (right-rest (m .initial) before rest (entry e Halt) right)
+
+    -- its state is the one after the codes that were taken
+    pub course-at : q ≡ after (m .next) (m .initial) (codes log)
+    course-at = sound L c .at
+
+    -- where that does not halt, released then held is everything taken
+    pub course-all : (m .operation q ≡ Halt → ⊥) → r ++ h ≡ codes log
+    course-all n = ⊎-elim (λ w. w .1) (λ w. absurd (n (w .1))) (sound L c .going)
+
+    -- and where that is accepting the last event was answered dump, and nothing is held
+    pub course-out : (before : List Entry) (x : Entry) → log ≡ before ++ x ∷ [] → m .accepting q ≡ true
+        → (x .operation ≡ Dump) × (r ≡ codes log) × (h ≡ [])
+    course-out before x p a =
+        let z = sound L c in
+        let o : m .operation q ≡ Dump = L .accepts-dump q (z .valid) a in
+        let taken : codes log ≡ codes before ++ x .code ∷ [] = ap codes p ∙ codes-append before (x ∷ []) in
+        let there : q ≡ m .next (after (m .next) (m .initial) (codes before)) (x .code) =
+        z .at ∙ ap (after (m .next) (m .initial)) taken ∙ after-append (m .initial) (codes before) (x .code ∷ []) in
+        let all = course-all (λ p. halt-dump p o) in
+        let good : acceptsBy m (take (length (codes log)) (codes log)) ≡ true =
+        ap (acceptsBy m) (take-all (length (codes log)) (codes log) (omega arith) ∙ taken) ∙ accepts-last (codes before) (x .code)
+        ∙ ap (m .accepting) (sym there) ∙ a in
+        let long = z .best .best (length (codes log)) (omega arith) good in
+        let none : h ≡ [] = nothing h (omega (arith, long, length-append r h, ap length all)) in (
+          right-at (m .initial) before [] x (right-here before [] x p) ∙ ap (m .operation) (sym there) ∙ o,
+          sym (append-nil r) ∙ ap (λ (l : List ℕ). r ++ l) (sym none) ∙ all,
+          none,
+        )
+      where
+        nothing : (l : List ℕ) → length l ≤ 0 → l ≡ []
+        nothing [] s = refl
+        nothing (y ∷ l) s = absurd (omega arith)

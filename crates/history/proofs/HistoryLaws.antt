@@ -5,7 +5,7 @@ use native.Mathlib.Omega.{arith}
 use native.Mathlib.Decide.{decLe}
 use native.Mathlib.Numerals.{add-one}
 use mathlib.Core.Path.{_≡_, refl, sym, ap, _∙_}
-use mathlib.Core.Bool.{false}
+use mathlib.Core.Bool.{true, false}
 use mathlib.Core.List.{List, [], _∷_, _++_, append-nil}
 use lib.ListN.{length, take, drop, getD, length-append, length-set}
 use lib.Seq.{take-at, take-suc-set, length-take-le}
@@ -13,6 +13,7 @@ use lib.Dec.{eqb}
 use borrow.Author.Tests.{le-ltb, le-leb, lt-leb}
 use Rattle.rule.specs.Drawing.{stateNo}
 use Rattle.rule.specs.Operations.{markOf}
+use Rattle.rule.specs.Reach.{after}
 use Rattle.rule.specs.Machine.{Machine, Laws, Sharp}
 use Rattle.rule.specs.declared.EventNo.{EventNo}
 use Rattle.rule.specs.declared.Operation.{Operation}
@@ -32,9 +33,9 @@ use Rattle.effects.specs.declared.Run.{Run}
 use Rattle.monitor.specs.declared.Start.{Start}
 use Rattle.effects.specs.declared.Turn.{Turn}
 use Rattle.effects.specs.declared.Turn.the-variants.{Move, Refused}
-use Rattle.history.specs.Course.{Entry, releasedBy, heldBy, Course, start, step, Kept, KeptSharp}
+use Rattle.history.specs.Course.{Entry, codes, releasedBy, heldBy, Course, start, step, Kept, KeptSharp}
 use Rattle.history.specs.History.{History, fresh, call, others, logAfter, runAfter, releasedAfter}
-use Rattle.history.proofs.CourseLaws.{course-kept, course-sharp, halted, halt-store, store-dump}
+use Rattle.history.proofs.CourseLaws.{course-kept, course-sharp, course-at, course-all, course-out, halted, halt-store, store-dump}
 
 -- the sheet is the machine's: it opens as the machine's numbers, and each cell is the machine's move
 pub record Drawn (m : Machine) (sheet : List ℕ) : Type 0 where
@@ -183,3 +184,26 @@ module _ (m : Machine) (L : Laws m) (sheet : List ℕ) (D : Drawn m sheet) where
       let o : m .operation (m .next (run .state .0) (e .0)) ≡ Halt = L .halt-stays _ _ (f .valid) k (halted m L (f .course) before rest c p) in
       turn-move run e memory (f .valid) (f .within) k output
       ∙ ap (λ (x : Operation). roomTurn (Move x (stateNo (m .next (run .state .0) (e .0)))) (run .held) (length memory) (length output)) o
+
+  -- it stands at the state after the codes that were taken, a state of the machine, and holds no more than the memory has
+  pub history-at : {log : List Entry} {released : List ℕ} {run : Run} {memory : List ℕ} → History sheet log released run memory
+      → run .state .0 ≡ after (m .next) (m .initial) (codes log)
+  history-at h = course-at m L (follows h .course)
+
+  pub history-in : {log : List Entry} {released : List ℕ} {run : Run} {memory : List ℕ} → History sheet log released run memory
+      → (run .state .0 < m .states) × (run .held ≤ length memory)
+  history-in h = let f = follows h in (f .valid, f .within)
+
+  -- where that state does not halt, released then held is everything taken
+  pub history-all : {log : List Entry} {released : List ℕ} {run : Run} {memory : List ℕ} → History sheet log released run memory
+      → (m .operation (run .state .0) ≡ Halt → ⊥) → released ++ take (run .held) memory ≡ codes log
+  history-all h = course-all m L (follows h .course)
+
+  -- where that state is accepting the last event was answered dump, everything taken is released, and nothing is held
+  pub history-out : {log : List Entry} {released : List ℕ} {run : Run} {memory : List ℕ} → History sheet log released run memory
+      → (before : List Entry) (x : Entry) → log ≡ before ++ x ∷ [] → m .accepting (run .state .0) ≡ true
+      → (x .operation ≡ Dump) × (released ≡ codes log) × (run .held ≡ 0)
+  history-out {run = run} {memory = memory} h before x p a =
+      let f = follows h in
+      let o = course-out m L (f .course) before x p a in
+      (o .0, o .1, omega (arith, f .within, length-take-le (run .held) memory (f .within), ap length (o .2)))

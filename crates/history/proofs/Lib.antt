@@ -1,3 +1,4 @@
 pub mod CourseLaws
 pub mod HistoryLaws
 pub mod EveningLaws
+pub mod RoomLaws

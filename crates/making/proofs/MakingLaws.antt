@@ -1,12 +1,11 @@
 -- Laws of a made sheet: its length, its cells, and that it opens as what it was made from.
 -- Assumes nothing.
 use Prim.Native.Nat.{ℕ, zero, suc, _+_, _-_, _*_, _/_, _%_, _≤_, _<_}
-use native.Mathlib.Decide.{decLt}
 use native.Mathlib.Omega.{arith}
-use native.Mathlib.Nat.{mul-le-mul, le-of-suc-le-suc, div-lt-iff-lt-mul, div-add-mod', mod-lt}
+use native.Mathlib.Nat.{mul-le-mul, le-of-suc-le-suc}
 use mathlib.Core.Path.{_≡_, refl, _∙_}
 use mathlib.Core.List.{List, [], _∷_, _++_, map}
-use lib.ListN.{length, getD, length-append, length-map, List·getD-append, List·getD-eq-default}
+use lib.ListN.{length, getD, length-append, length-map, List·getD-append}
 use lib.Arith.{digits-lt}
 use lib.Seq.{getD-append-add}
 use Rattle.octets.specs.Numbers.{digits}
@@ -15,6 +14,7 @@ use Rattle.rule.specs.Operations.{markOf, operation}
 use Rattle.rule.specs.Range.{ruleLimits, InRange}
 use Rattle.rule.specs.Reach.{target, Closed}
 use Rattle.rule.specs.declared.Shape.{Shape}
+use Rattle.rule.proofs.WayLaws.{closed-low}
 use Rattle.sheet.specs.Layout.{back, cellOf, endOf, sheetOf}
 use Rattle.sheet.specs.Opening.{openedOf}
 use Rattle.sheet.specs.declared.Opened.the-variants.{Sheet}
@@ -58,15 +58,7 @@ pub record Formed (d : Drawing) : Type 0 where
 module _ {d : Drawing} (f : Formed d) where
   -- every byte of its table is a state
   pub low : (i : ℕ) → getD (d .table) i 0 < states d
-  unfolding target
-  low i =
-      elim (decLt i (length (d .table))) [
-        | yes h ↦
-            let k : 1 ≤ events d = f .in-range .some-events in
-            let s : i / events d < states d = div-lt-iff-lt-mul k .1 (rw (f .cells) at h) in
-            rw (div-add-mod' i (events d)) at (f .entries-in (i / events d) (i % events d) s (mod-lt i k))
-        | no h ↦ rw (List·getD-eq-default (d .table) 0 {n = i} (omega arith)) (f .in-range .some-states)
-      ]
+  low = closed-low (d .table) (states d) (events d) (f .in-range .some-states) (f .in-range .some-events) (f .cells) (f .entries-in)
 
   pub sheet-length : length (sheetOf d) ≡ states d * events d + 6
   sheet-length = length-sheet d ∙ rw (f .cells)

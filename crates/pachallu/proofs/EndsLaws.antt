@@ -29,14 +29,21 @@ use Rattle.effects.specs.Effects.{freshRun}
 use Rattle.effects.specs.declared.Run.{Run}
 use Rattle.effects.specs.declared.Answer.{Answer}
 use Rattle.effects.specs.declared.Answer.the-variants.{Taken, Refused}
+use Rattle.why.specs.Given.{Asking, whyOrder}
+use Rattle.why.specs.Why.{groundTold}
+use Rattle.why.specs.declared.Ground.{Ground}
+use Rattle.why.specs.declared.Ground.the-variants.{Halted, Held, Released, Refused as Unasked}
+use Rattle.why.proofs.GivenLaws.{why-ends}
 use Rattle.pachallu.specs.Told.{madeOf, PutForC, foundOf, FindForC, startedOf, FreshForC, runOf, answeredOf, EventForC}
 use Rattle.pachallu.specs.Told.{madeTold, foundTold, startedTold, answeredTold, PutKept, FindKept, FreshKept, EventKept}
 use Rattle.pachallu.specs.Told.{EveningForC, eveningTold, EveningKeptForC}
+use Rattle.pachallu.specs.Told.{reasonOf, WhyForC, reasonTold, WhyKept}
 use Rattle.pachallu.specs.declared.Made.{Made}
 use Rattle.pachallu.specs.declared.Found.{Found}
 use Rattle.pachallu.specs.declared.Started.{Started}
 use Rattle.pachallu.specs.declared.Answered.{Answered}
 use Rattle.pachallu.specs.declared.Evening.{Evening}
+use Rattle.pachallu.specs.declared.Reason.{Reason}
 
 -- a call that puts bytes into an output, by how the call behind it ends
 pub c-put-ends : {T : Table} {order : List ℕ} {Promise : Written → List ℕ → Type 0} {out : List ℕ} {r : Made} {out′ : List ℕ}
@@ -102,3 +109,15 @@ pub c-evening-ends : {sheet : List ℕ} {state held : ℕ} {log memory output : 
 c-evening-ends {sheet} {state} {held} {log} {memory} {output} {r} {memory′} {output′} p =
     let e = evening-ends sheet (runOf state held) memory output (p .answer) memory′ output′ log (p .promise) in
     rw (p .told) (record { tells = e .tells; rest = λ n. record { answer = p .answer; told = refl; kept = e .rest n } })
+
+-- why
+pub c-why-ends : {rule : List ℕ} {state event : ℕ} {way : List ℕ} {r : Reason} {way′ : List ℕ} → WhyForC rule state event way r way′
+    → Ends (Asking rule state event (length way)) whyOrder (reasonTold r) (WhyKept way r way′)
+c-why-ends {rule} {state} {event} {way} {r} {way′} p = rw (p .told) (by (p .answer) (why-ends (p .promise)))
+  where
+    by : (g : Ground) → Ends (Asking rule state event (length way)) whyOrder (groundTold g) (way′ ≡ way)
+        → Ends (Asking rule state event (length way)) whyOrder (reasonTold (reasonOf g)) (WhyKept way (reasonOf g) way′)
+    by (Halted i) e = record { tells = e .tells; rest = λ n. absurd (n refl) }
+    by (Held i k) e = record { tells = e .tells; rest = λ n. absurd (n refl) }
+    by Released e = record { tells = e .tells; rest = λ n. absurd (n refl) }
+    by (Unasked x) e = record { tells = e .tells; rest = λ n. record { way-kept = e .rest n; operation = refl; pair = refl; length = refl } }

@@ -1,7 +1,8 @@
 -- Any two calls with the same arguments that the contract of a function of this crate allows are equal. Assumes nothing.
 use mathlib.Core.Path.{refl, sym, ap, _∙_}
 use Rattle.contracts.specs.Contract.{OneAnswer}
-use Rattle.pachallu.specs.Told.{madeOf, answeredOf, eveningFor, runOf}
+use Rattle.why.proofs.OneAnswer.{ground-one}
+use Rattle.pachallu.specs.Told.{madeOf, answeredOf, eveningFor, reasonOf, runOf}
 use Rattle.pachallu.proofs
 
 pub pachallu-make-one-answer : OneAnswer proofs.pachallu_make.ended proofs.pachallu_make.Reads.Learnt
@@ -42,4 +43,11 @@ pachallu-events-one-answer κs a x y =
     let q = y .told .promise in (
       x .told .told ∙ ap eveningFor (p .report ∙ sym (q .report)) ∙ sym (y .told .told),
       λ i. (tt, (tt, (tt, (tt, ((p .memory-after ∙ sym (q .memory-after)) i, ((p .output-after ∙ sym (q .output-after)) i, tt)))))),
+    )
+
+pub pachallu-why-one-answer : OneAnswer proofs.pachallu_why.ended proofs.pachallu_why.Reads.Learnt
+pachallu-why-one-answer κs a x y =
+    let q = ground-one (x .told .promise) (y .told .promise) in (
+      x .told .told ∙ ap reasonOf (q .0) ∙ sym (y .told .told),
+      λ i. (tt, (tt, (tt, (q .1 i, tt)))),
     )

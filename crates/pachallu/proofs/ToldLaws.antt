@@ -7,6 +7,7 @@ use Rattle.rule.specs.Drawing.{eventNo}
 use Rattle.rule.specs.Operations.{markOf}
 use Rattle.rule.specs.Refusals.{toldOf, verdictTold}
 use Rattle.rule.specs.declared.Operation.{Operation}
+use Rattle.rule.specs.declared.Operation.the-variants.{Halt, Store, Dump}
 use Rattle.rule.specs.declared.Refusal.{Refusal}
 use Rattle.rule.specs.declared.Told.{Told}
 use Rattle.rule.specs.declared.Verdict.{Verdict}
@@ -24,7 +25,11 @@ use Rattle.effects.specs.declared.Run.{Run}
 use Rattle.monitor.specs.declared.Start.{Start}
 use Rattle.effects.specs.declared.Answer.{Answer}
 use Rattle.effects.specs.declared.Answer.the-variants.{Taken, Refused}
-use Rattle.pachallu.specs.Told.{madeOf, FindForC, FreshForC, EventForC, EveningForC, runOf}
+use Rattle.why.specs.Why.{WhyPromise}
+use Rattle.why.specs.declared.Ground.{Ground}
+use Rattle.why.specs.declared.Ground.the-variants.{Halted, Held, Released, Refused as Unasked}
+use Rattle.pachallu.specs.Told.{madeOf, FindForC, FreshForC, EventForC, EveningForC, reasonBy, WhyForC, runOf}
+use Rattle.pachallu.specs.declared.Reason.{Reason}
 
 -- putting bytes
 pub made-done : {w : Written} {n : ℕ} → w ≡ Done n → record { refusal = 0; a = 0; b = 0; written = n } ≡ madeOf w
@@ -84,3 +89,22 @@ pub evening-told : {sheet log memory output memory′ output′ : List ℕ} {sta
     (record { refusal = t .number; a = t .a; b = t .b; state = r .run .state .0; held = r .run .held; taken = r .taken; released = r .released })
     memory′ output′
 evening-told {r = r} p e = record { answer = r; promise = p; told = rw e }
+
+-- why
+pub reason-is : (o : Operation) (pair length mark : ℕ) → mark ≡ markOf o
+    → record { refusal = 0; a = 0; b = 0; operation = mark; pair = pair; length = length } ≡ reasonBy o pair length
+reason-is o pair length mark e = rw e
+
+module _ {rule way way′ : List ℕ} {state event : ℕ} {g : Ground} (p : WhyPromise rule state event way g way′) where
+  pub why-halted : {i : ℕ} {r : Reason} → g ≡ Halted i → r ≡ reasonBy Halt i 0 → WhyForC rule state event way r way′
+  why-halted q e = record { answer = g; promise = p; told = rw q e }
+
+  pub why-held : {i n : ℕ} {r : Reason} → g ≡ Held i n → r ≡ reasonBy Store i n → WhyForC rule state event way r way′
+  why-held q e = record { answer = g; promise = p; told = rw q e }
+
+  pub why-released : {r : Reason} → g ≡ Released → r ≡ reasonBy Dump 0 0 → WhyForC rule state event way r way′
+  why-released q e = record { answer = g; promise = p; told = rw q e }
+
+  pub why-refused : {x : Refusal} {t : Told} → g ≡ Unasked x → t ≡ toldOf x
+      → WhyForC rule state event way (record { refusal = t .number; a = t .a; b = t .b; operation = 0; pair = 0; length = 0 }) way′
+  why-refused q e = record { answer = g; promise = p; told = rw (q, e) }

@@ -6,6 +6,8 @@ use mathlib.Core.List.{List}
 use Rattle.rule.specs.Drawing.{stateNo, eventNo}
 use Rattle.rule.specs.Operations.{markOf}
 use Rattle.rule.specs.Refusals.{tell, toldOf, verdictTold}
+use Rattle.rule.specs.declared.Operation.{Operation}
+use Rattle.rule.specs.declared.Operation.the-variants.{Halt, Store, Dump}
 use Rattle.rule.specs.declared.Told.{Told}
 use Rattle.rule.specs.declared.Verdict.{Verdict}
 use Rattle.rule.specs.declared.Verdict.the-variants.{Sound, Refused as Unsound}
@@ -25,11 +27,15 @@ use Rattle.monitor.specs.declared.Evening.{Evening as Reported}
 use Rattle.effects.specs.declared.Run.{Run}
 use Rattle.effects.specs.declared.Answer.{Answer}
 use Rattle.effects.specs.declared.Answer.the-variants.{Taken, Refused}
+use Rattle.why.specs.Why.{WhyPromise}
+use Rattle.why.specs.declared.Ground.{Ground}
+use Rattle.why.specs.declared.Ground.the-variants.{Halted, Held, Released, Refused as Unasked}
 use Rattle.pachallu.specs.declared.Made.{Made}
 use Rattle.pachallu.specs.declared.Started.{Started}
 use Rattle.pachallu.specs.declared.Answered.{Answered}
 use Rattle.pachallu.specs.declared.Found.{Found}
 use Rattle.pachallu.specs.declared.Evening.{Evening}
+use Rattle.pachallu.specs.declared.Reason.{Reason}
 
 -- putting bytes into an output: 0 is "done"; a refused call has written nothing
 abbrev pub madeOf : Written → Made
@@ -111,6 +117,21 @@ pub record EveningForC (sheet : List ℕ) (state held : ℕ) (log memory output 
   pub promise : EveningPromise sheet (runOf state held) log memory output answer memory′ output′
   pub told : r ≡ eveningFor answer
 
+-- why: the operation, the pair and the length of the way; no pair for a dump, no way but for a store; a refused one has 0 in their places
+abbrev pub reasonBy : Operation → (pair length : ℕ) → Reason
+reasonBy o pair length = record { refusal = 0; a = 0; b = 0; operation = markOf o; pair = pair; length = length }
+
+abbrev pub reasonOf : Ground → Reason
+reasonOf (Halted i) = reasonBy Halt i 0
+reasonOf (Held i n) = reasonBy Store i n
+reasonOf Released = reasonBy Dump 0 0
+reasonOf (Unasked r) = record { refusal = toldOf r .number; a = toldOf r .a; b = toldOf r .b; operation = 0; pair = 0; length = 0 }
+
+pub record WhyForC (rule : List ℕ) (state event : ℕ) (way : List ℕ) (r : Reason) (way′ : List ℕ) : Type 0 where
+  pub answer : Ground
+  pub promise : WhyPromise rule state event way answer way′
+  pub told : r ≡ reasonOf answer
+
 -- the number and the places of an answer
 abbrev pub madeTold : Made → Told
 madeTold r = tell (r .refusal) (r .a) (r .b)
@@ -127,8 +148,11 @@ foundTold r = tell (r .refusal) (r .a) (r .b)
 abbrev pub eveningTold : Evening → Told
 eveningTold r = tell (r .refusal) (r .a) (r .b)
 
--- what a refused call leaves: the output as it was and nothing written; 0 for the book, the start and the length; state 0 with nothing held;
--- the memory, the output and the run state as they were
+abbrev pub reasonTold : Reason → Told
+reasonTold r = tell (r .refusal) (r .a) (r .b)
+
+-- what a refused call leaves: the output as it was and nothing written; 0 for the book, the start and the length; the way as it was, and 0 for the
+-- operation, the pair and the length; state 0 with nothing held; the memory, the output and the run state as they were
 pub record PutKept (out : List ℕ) (r : Made) (out′ : List ℕ) : Type 0 where
   pub output-kept : out′ ≡ out
   pub written : r .written ≡ 0
@@ -136,6 +160,12 @@ pub record PutKept (out : List ℕ) (r : Made) (out′ : List ℕ) : Type 0 wher
 pub record FindKept (r : Found) : Type 0 where
   pub book : r .book ≡ 0
   pub start : r .start ≡ 0
+  pub length : r .length ≡ 0
+
+pub record WhyKept (way : List ℕ) (r : Reason) (way′ : List ℕ) : Type 0 where
+  pub way-kept : way′ ≡ way
+  pub operation : r .operation ≡ 0
+  pub pair : r .pair ≡ 0
   pub length : r .length ≡ 0
 
 pub record FreshKept (r : Started) : Type 0 where

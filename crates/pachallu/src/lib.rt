@@ -1,15 +1,17 @@
 // What C calls: numbers and byte slices. Each call is one of the house's, and its answer is told in numbers; include/pachallu.h declares them.
 ghost use mathlib.Core.Path.{_≡_};
 ghost use Rattle.rule.specs.Refusals.{verdictTold};
-ghost use Rattle.pachallu.specs.Told.{madeOf, MakeForC, PrintForC, FindForC, AddForC, FreshForC, EventForC, EveningForC};
+ghost use Rattle.pachallu.specs.Told.{madeOf, reasonBy, MakeForC, PrintForC, FindForC, AddForC, FreshForC, EventForC, EveningForC, WhyForC};
 use book::Lookup;
 use effects::Answer;
 use effects::Run;
 use rule::EventNo;
+use rule::Operation;
 use rule::StateNo;
 use rule::Told;
 use rule::Verdict;
 use rule::Written;
+use why::Ground;
 
 // What making a sheet, printing a monitor or adding to a book came to. A refusal of 0 is "done".
 #[repr(C)]
@@ -63,6 +65,18 @@ pub struct Evening {
     pub held: usize,
     pub taken: usize,
     pub released: usize,
+}
+
+// Why an event is answered as it is: the operation, the pair that is the ground for it, and the length of the way that meets the pair.
+// A dump has no ground, and a halt has no way.
+#[repr(C)]
+pub struct Reason {
+    pub refusal: u8,
+    pub a: u8,
+    pub b: u8,
+    pub operation: u8,
+    pub pair: u8,
+    pub length: usize,
 }
 
 // What came of putting bytes, told in numbers.
@@ -271,5 +285,42 @@ pub extern "C" fn pachallu_events(
         held: after.held,
         taken: evening.taken,
         released: evening.released,
+    }
+}
+
+// An operation with its ground, told in numbers.
+fn reason_of(operation: Operation, pair: u8, length: usize) -> Reason
+    ensures { λ r. ⌜ r ≡ reasonBy operation pair length ⌝ }
+{
+    Reason {
+        refusal: 0,
+        a: 0,
+        b: 0,
+        operation: operation.mark(),
+        pair,
+        length,
+    }
+}
+
+// Tells why an event is answered as it is in a state: the refusals 1 to 10, then 12, 13 and 16. The way stands at the front of `way`.
+#[no_mangle]
+pub extern "C" fn pachallu_why(rule: &[u8], state: u8, event: u8, way: &mut [u8]) -> Reason
+    ensures { λ r. ⌜ WhyForC (now (rule .entry)) state event (now (way .entry)) r (now (way .exit)) ⌝ }
+{
+    match why::why(rule, StateNo(state), EventNo(event), way) {
+        Ground::Halted(pair) => reason_of(Operation::Halt, pair, 0),
+        Ground::Held(pair, length) => reason_of(Operation::Store, pair, length),
+        Ground::Released => reason_of(Operation::Dump, 0, 0),
+        Ground::Refused(refusal) => {
+            let told = refusal.told();
+            Reason {
+                refusal: told.number,
+                a: told.a,
+                b: told.b,
+                operation: 0,
+                pair: 0,
+                length: 0,
+            }
+        }
     }
 }

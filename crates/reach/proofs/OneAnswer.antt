@@ -20,3 +20,6 @@ reached-one-answer κs a x y = (x .told ∙ sym (y .told), refl)
 
 pub reached-sets-one-answer : OneAnswer proofs.reached_sets.ended proofs.reached_sets.Reads.Learnt
 reached-sets-one-answer κs a x y = (x .told ∙ sym (y .told), refl)
+
+pub with-moves-one-answer : OneAnswer proofs.with_moves.ended proofs.with_moves.Reads.Learnt
+with-moves-one-answer κs a x y = (x .told ∙ sym (y .told), refl)

@@ -24,7 +24,7 @@ pub fn next(table: &[u8], events: u8, s: StateNo, e: EventNo) -> StateNo
 }
 
 // The set with every state to which one move from s leads. Only where the row is not whole is each cell asked for by `next`.
-fn with_moves(table: &[u8], events: u8, s: StateNo, set: u64) -> u64
+pub fn with_moves(table: &[u8], events: u8, s: StateNo, set: u64) -> u64
     ensures { λ r. ⌜ r ≡ withMoves (now (table .entry)) events (s .0) set events ⌝ }
 {
     let mut out = set;

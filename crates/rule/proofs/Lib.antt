@@ -8,6 +8,9 @@ pub mod MoveLaws
 pub mod CountLaws
 pub mod WayLaws
 pub mod ReachLaws
+-- the shortest way into a set
+pub mod LeastLaws
+pub mod ShortestLaws
 -- refusals: which is first, when each is given, and their numbers
 pub mod BoolLaws
 pub mod RangeLaws

@@ -21,7 +21,7 @@ module _ (table : List ℕ) (k s x : ℕ) where
   moves-hold P zero f h = h
   moves-hold P (suc j) f h = f (withMoves table k s x j) j (omega arith) (moves-hold P j (λ z e l. f z e (omega arith)) h)
 
-  moves-new : (j e : ℕ) → e < j → target table k s e < 64 → has (withMoves table k s x j) (target table k s e) ≡ true
+  pub moves-new : (j e : ℕ) → e < j → target table k s e < 64 → has (withMoves table k s x j) (target table k s e) ≡ true
   unfolding withMoves
   moves-new zero e h g = absurd (omega arith)
   moves-new (suc j) e h g =
@@ -29,7 +29,7 @@ module _ (table : List ℕ) (k s x : ℕ) where
       (λ l. including-keeps (withMoves table k s x j) (target table k s j) (target table k s e) (moves-new j e l g))
       (λ l. let q : e ≡ j = omega arith in rw q (including-new (withMoves table k s x j) (target table k s j) (rw q at g)))
 
-  moves-from : (j t : ℕ) → has (withMoves table k s x j) t ≡ true → (has x t ≡ true) ⊎ ((e : ℕ) × (e < j) × (target table k s e ≡ t))
+  pub moves-from : (j t : ℕ) → has (withMoves table k s x j) t ≡ true → (has x t ≡ true) ⊎ ((e : ℕ) × (e < j) × (target table k s e ≡ t))
   unfolding withMoves
   moves-from zero t m = inl m
   moves-from (suc j) t m =

@@ -1,11 +1,13 @@
--- Sequences of events one after the other, and where they lead.
+-- Sequences of events one after the other, and where they lead; and that they lead within the states.
 -- Assumes nothing.
 use mathlib.Core.Path.{_≡_, refl, ap, _∙_}
 use mathlib.Core.List.{List, [], _∷_, _++_}
-use Prim.Native.Nat.{ℕ, suc, _<_}
+use Prim.Native.Nat.{ℕ, suc, _*_, _/_, _%_, _≤_, _<_}
 use native.Mathlib.Omega.{arith}
-use lib.ListN.{length-append}
-use Rattle.rule.specs.Reach.{after, Events, none, more, LeadsWithin}
+use native.Mathlib.Decide.{decLt}
+use native.Mathlib.Nat.{div-lt-iff-lt-mul, div-add-mod', mod-lt}
+use lib.ListN.{length, getD, length-append, List·getD-eq-default}
+use Rattle.rule.specs.Reach.{target, Closed, after, Events, none, more, LeadsWithin}
 
 -- the state after one sequence and then another
 pub after-append : (next : ℕ → ℕ → ℕ) (q : ℕ) (v w : List ℕ) → after next q (v ++ w) ≡ after next (after next q v) w
@@ -41,3 +43,14 @@ module _ {k : ℕ} {next : ℕ → ℕ → ℕ} {q : ℕ} where
 pub after-lt : (n k : ℕ) (next : ℕ → ℕ → ℕ) → ((s e : ℕ) → s < n → e < k → next s e < n) → {w : List ℕ} → Events k w → (q : ℕ) → q < n → after next q w < n
 after-lt n k next closed none q h = h
 after-lt n k next closed (more {e = e} l known) q h = after-lt n k next closed known (next q e) (closed q e h l)
+
+-- where every move leads to a state, every byte of the table is a state, and 0 stands past it
+pub closed-low : (table : List ℕ) (n k : ℕ) → 1 ≤ n → 1 ≤ k → length table ≡ n * k → Closed table n k → (i : ℕ) → getD table i 0 < n
+unfolding target
+closed-low table n k some-n some-k cells closed i =
+    elim (decLt i (length table)) [
+      | yes h ↦
+          let s : i / k < n = div-lt-iff-lt-mul some-k .1 (rw cells at h) in
+          rw (div-add-mod' i k) at (closed (i / k) (i % k) s (mod-lt i some-k))
+      | no h ↦ rw (List·getD-eq-default table 0 {n = i} (omega arith)) some-n
+    ]

@@ -1,6 +1,7 @@
 pub mod Arrays
 pub mod Sets
 pub mod Reach
+pub mod Ways
 pub mod Range
 pub mod Drawing
 pub mod Acceptance

@@ -7,6 +7,7 @@ use crate::said;
 use crate::script::part;
 use crate::script::wide;
 use check::same;
+use rule::EventNo;
 use rule::Pair;
 use rule::Rule;
 use rule::Shape;
@@ -128,6 +129,12 @@ fn books(command: u8, first: u8, second: u8, place: u8, bytes: &[u8]) -> bool {
     false
 }
 
+// Asks why an event is answered as it is in a state.
+fn ask(file: &[u8], state: u8, event: u8, out: &mut [u8]) {
+    said::ground(why::why(file, StateNo(state), EventNo(event), out));
+    said::bytes(out);
+}
+
 // A command by its letter. Answers whether there is one with so many numbers.
 pub(crate) fn call(command: u8, numbers: &[u8], bytes: &[u8]) -> bool {
     match command {
@@ -141,6 +148,13 @@ pub(crate) fn call(command: u8, numbers: &[u8], bytes: &[u8]) -> bool {
         return put(command, bytes, &mut out[0..room]);
     }
     if numbers.len() == 3 {
+        if command == b'y' {
+            let mut whole = [171u8; 255];
+            let out: &mut [u8] = &mut whole;
+            let room = wide(numbers[0]);
+            ask(bytes, numbers[1], numbers[2], &mut out[0..room]);
+            return true;
+        }
         return books(command, numbers[0], numbers[1], numbers[2], bytes);
     }
     if numbers.len() != 0 {

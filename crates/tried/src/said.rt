@@ -7,6 +7,7 @@ use effects::Run;
 use rule::Operation;
 use rule::Refusal;
 use rule::Written;
+use why::Ground;
 
 pub(crate) fn say(word: &[u8]) {
     io::write_all(1, word);
@@ -84,6 +85,23 @@ pub(crate) fn lookup(found: Lookup) {
         Lookup::Job(start, size) => place(b" job", start, size),
         Lookup::Office(start, size) => place(b" office", start, size),
         Lookup::Refused(refusal) => refused(refusal),
+    }
+}
+
+// An operation and the ground for it.
+pub(crate) fn ground(ground: Ground) {
+    match ground {
+        Ground::Halted(pair) => {
+            say(b" halt");
+            number(wide(pair) as u64);
+        }
+        Ground::Held(pair, length) => {
+            say(b" store");
+            number(wide(pair) as u64);
+            number(length as u64);
+        }
+        Ground::Released => say(b" dump"),
+        Ground::Refused(refusal) => refused(refusal),
     }
 }
 

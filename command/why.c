@@ -1,0 +1,114 @@
+/* why.c: pachallu why: what a held code waits for and why a code is halted, as the library tells it. */
+#include "why.h"
+
+#include <string.h>
+#include <unistd.h>
+
+#include "command.h"
+
+enum { NAMES_SHOWN = 8 };
+
+static void ask(const struct loaded *loaded, uint8_t state, uint8_t code, struct reason *reason) {
+    reason->told = pachallu_why(loaded->bytes, loaded->len, state, code, reason->way, sizeof reason->way);
+    if (reason->told.refusal == 0) reason->at = move_of(&loaded->rule, state, code);
+}
+
+const struct reason *reason_at(struct reasons *reasons, size_t state) {
+    const struct rule *rule = &reasons->loaded->rule;
+    for (size_t cell = 0; cell < rule->states * rule->codes && !reasons->asked[state]; cell++) {
+        if (rule->table[cell] != state) continue;
+        ask(reasons->loaded, (uint8_t)(cell / rule->codes), (uint8_t)(cell % rule->codes), &reasons->reason[state]);
+        reasons->asked[state] = true;
+    }
+    return &reasons->reason[state];
+}
+
+/* ---- in words */
+
+/* " between half": the names of a set, or the numbers of those that have none, at most so many. */
+static void put_set(struct sink *out, const struct name *names, size_t count, uint64_t set, size_t most) {
+    size_t shown = 0;
+    for (size_t i = 0; i < count && shown <= most; i++)
+        if (in_set(set, i)) put_line(out, " %s", shown++ < most ? word_for(names, i) : "..");
+}
+
+static void put_way(struct sink *out, const struct rule *rule, const struct reason *reason, size_t most) {
+    for (size_t i = 0; i < reason->told.length && i <= most; i++)
+        put_line(out, " %s", i < most ? word_for(rule->names.code, reason->way[i]) : "..");
+}
+
+void put_wait(struct sink *out, const struct rule *rule, const struct reason *reason, size_t most) {
+    put_way(out, rule, reason, most);
+    if (rule->pairs > 1) put_line(out, " (pair %u)", (unsigned)reason->told.pair);
+}
+
+/* The states in which a pair is met. */
+static void put_met(struct sink *out, const struct rule *rule, size_t pair) {
+    put_set(out, rule->names.state, rule->states, rule->r[pair] | rule->p[pair], rule->states);
+}
+
+void put_lost(struct sink *out, const struct rule *rule, const struct reason *reason) {
+    put_line(out, "pair %u, which wants one of:", (unsigned)reason->told.pair);
+    put_met(out, rule, reason->told.pair);
+}
+
+static void put_halt(struct sink *out, const struct rule *rule, const struct reason *reason) {
+    put_line(out, "halt: pair %u is lost. It wants one of:", (unsigned)reason->told.pair);
+    put_met(out, rule, reason->told.pair);
+    put_line(out, "; no codes lead there from %s.\n", word_for(rule->names.state, reason->at));
+}
+
+/* No code leads into P from outside it, so that R is what is wanted. */
+static void put_store(struct sink *out, const struct rule *rule, const struct reason *reason) {
+    put_line(out, "store: pair %u wants one of:", (unsigned)reason->told.pair);
+    put_set(out, rule->names.state, rule->states, rule->r[reason->told.pair], rule->states);
+    put_text(out, ". The shortest way there:");
+    put_way(out, rule, reason, PACHALLU_WAY_MAX);
+    put_text(out, ".\n");
+}
+
+void put_reason(struct sink *out, const struct rule *rule, const struct reason *reason) {
+    switch (reason->told.operation) {
+    case PACHALLU_HALT: put_halt(out, rule, reason); break;
+    case PACHALLU_STORE: put_store(out, rule, reason); break;
+    default:
+        put_line(out, "dump: every pair is met at %s. The code goes in, and with it all that is held.\n",
+                 word_for(rule->names.state, reason->at));
+    }
+}
+
+/* ---- the command */
+
+/* The number that a word writes or names; 255, which no state and no code has, where it does neither. */
+static uint8_t called(const char *word, const struct name *names, size_t count) {
+    const uint8_t *text = (const uint8_t *)word;
+    int number = number_in(text, strlen(word));
+    if (number < 0) number = find_name(names, count, text, strlen(word));
+    return number >= 0 && number < 255 ? (uint8_t)number : 255;
+}
+
+/* The rule has no such state or code. */
+static enum status tell_none(const struct loaded *loaded, const char *refused, const char *word, const struct name *names,
+                             size_t count) {
+    struct sink those = sink_to(-1);
+    put_set(&those, names, count, ~(uint64_t)0, NAMES_SHOWN);
+    tell(loaded->file, 0, "%s%s of this rule is called %s; it has%.*s", loaded->part, refused, quoted(word, strlen(word)),
+         (int)those.used, (const char *)those.bytes);
+    sink_free(&those);
+    return ANSWER_NO;
+}
+
+enum status command_why(const struct arguments *arguments) {
+    static struct loaded loaded;
+    const struct rule *rule = &loaded.rule;
+    const struct name *states = rule->names.state, *codes = rule->names.code;
+    struct reason reason;
+    enum status status = load_accepted(&arguments->rule, &loaded);
+    if (status != DONE) return status;
+    ask(&loaded, called(arguments->state, states, rule->states), called(arguments->code, codes, rule->codes), &reason);
+    if (reason.told.refusal == 12) return tell_none(&loaded, "refused 12: no state", arguments->state, states, rule->states);
+    if (reason.told.refusal == 13) return tell_none(&loaded, "refused 13: no code", arguments->code, codes, rule->codes);
+    struct sink out = sink_to(STDOUT_FILENO);
+    put_reason(&out, rule, &reason);
+    return end_output(&out, DONE);
+}

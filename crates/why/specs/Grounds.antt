@@ -1,0 +1,69 @@
+-- The ground of an operation, judged at the state t after the event: in the request's words, and computed.
+-- Assumes nothing.
+use Prim.Native.Nat.{ℕ}
+use mathlib.Core.Path.{_≡_}
+use mathlib.Core.Bool.{false, not}
+use mathlib.Core.List.{List, []}
+use lib.Bits.{bitOr}
+use lib.ListN.{getD}
+use Rattle.rule.specs.Drawing.{Drawing, states, events, count, next, pairAt, noPair}
+use Rattle.rule.specs.Acceptance.{meetsPair}
+use Rattle.rule.specs.Given.{LowestPair}
+use Rattle.rule.specs.Operations.{reachOf, operationAt}
+use Rattle.rule.specs.Stopping.{stopsBy}
+use Rattle.rule.specs.Ways.{Meets, Shortest, least, wayInto}
+use Rattle.rule.specs.declared.Pair.{Pair}
+use Rattle.rule.specs.declared.Operation.{Operation}
+use Rattle.rule.specs.declared.Operation.the-variants.{Halt, Store, Dump}
+
+-- in the request's words
+
+-- pair i is not met at t: t lies in neither R nor P
+abbrev pub Unmet : Drawing → ℕ → ℕ → Type 0
+Unmet d t i = meetsPair (pairAt d i) t ≡ false
+
+-- it is not met there, and no further events can meet it
+pub record Lost (d : Drawing) (t i : ℕ) : Type 0 where
+  pub unmet : Unmet d t i
+  pub never : (w : List ℕ) → Meets (events d) (next d) (meetsPair (pairAt d i)) t w → ⊥
+
+-- halt: the lowest pair that is not met there and that no further events can meet
+abbrev pub HaltGround : Drawing → ℕ → ℕ → Type 0
+HaltGround d t i = LowestPair d (Lost d t) i
+
+-- store: the lowest pair not yet met, with the shortest sequence of further events that meets it, the lowest in event order among equals
+pub record StoreGround (d : Drawing) (t i : ℕ) (w : List ℕ) : Type 0 where
+  pub lowest : LowestPair d (Unmet d t) i
+  pub way : Shortest (events d) (next d) (meetsPair (pairAt d i)) t w
+
+-- computed
+
+-- the states where a pair is met
+abbrev pub goalOf : Pair → ℕ
+goalOf p = bitOr (p .r) (p .p)
+
+-- the lowest of n pairs by which t, which reaches the set `reached`, is stopping; the lowest of n pairs that is not met; or n
+unfoldable pub lostAmong : List Pair → (n reached t : ℕ) → ℕ
+lostAmong ps n reached t = least (λ i. stopsBy (getD ps i noPair) reached t) n
+
+unfoldable pub unmetAmong : List Pair → (n t : ℕ) → ℕ
+unmetAmong ps n t = least (λ i. not (meetsPair (getD ps i noPair) t)) n
+
+-- the pair that a halt names, the pair that a store names, and the way that meets it
+abbrev pub lostPair : Drawing → ℕ → ℕ
+lostPair d t = lostAmong (d .pairs) (count d) (reachOf d t) t
+
+abbrev pub wantedPair : Drawing → ℕ → ℕ
+wantedPair d t = unmetAmong (d .pairs) (count d) t
+
+unfoldable pub wayFor : Drawing → ℕ → List ℕ
+wayFor d t = wayInto (next d) (states d) (events d) (goalOf (pairAt d (wantedPair d t))) t
+
+-- the way that is told: a halt and a dump have none
+abbrev pub wayBy : Operation → List ℕ → List ℕ
+wayBy Halt w = []
+wayBy Store w = w
+wayBy Dump w = []
+
+unfoldable pub wayTold : Drawing → ℕ → List ℕ
+wayTold d t = wayBy (operationAt d t) (wayFor d t)
