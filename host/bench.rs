@@ -10,6 +10,8 @@ mod library;
 #[allow(dead_code)]
 mod monitor;
 mod plain;
+#[allow(dead_code)]
+mod rules;
 
 use dice::Dice;
 use library::{Answer, Evening, Made, Reason};
@@ -17,6 +19,7 @@ use library::{Answer, Evening, Made, Reason};
 /// What is counted has no test for empty buffers (host/library.rs).
 pub const NULL_FOR_EMPTY: bool = false;
 use monitor::{Filed, Pair, Rule, Run};
+use rules::{by_chance, chain, long_way, rule, self_loops, zigzag};
 use std::arch::asm;
 
 const MARK: u64 = 0x70616368;
@@ -182,10 +185,6 @@ fn full_book(number: u8) -> Vec<u8> {
     monitor::book(&(0..1024).map(|i| Filed { number: under(i), rule: vec![i as u8; i % 8] }).collect::<Vec<_>>())
 }
 
-fn rule(class: usize, rows: Vec<Vec<usize>>, pairs: Vec<Pair>) -> Rule {
-    Rule { class, states: rows.len(), events: rows[0].len(), initial: 0, note: vec![], rows, pairs }
-}
-
 /// Setups: 0 backsight, 1 foresight, 2 disturbed (the paper's rule A).
 fn setups() -> Rule {
     rule(4, vec![vec![1, 2, 0], vec![2, 0, 2], vec![2, 2, 2]], vec![Pair { r: vec![0], p: vec![] }])
@@ -223,39 +222,6 @@ fn days(sheet: &[u8], steps: usize) -> Vec<Step> {
     list
 }
 
-fn set(states: std::ops::Range<usize>) -> Vec<usize> {
-    states.collect()
-}
-
-/// Tables by chance over 56 states, with eight more that are never left.
-fn by_chance() -> Rule {
-    let mut dice = Dice::new(2, 0);
-    let rows = (0..64).map(|s| (0..32).map(|_| if s < 56 { dice.below(64) } else { s }).collect()).collect();
-    let pairs = (0..8).map(|i| Pair { r: set(56..57 + i), p: if i % 2 == 1 { set(0..56) } else { vec![] } }).collect();
-    rule(3, rows, pairs)
-}
-
-/// Each state leads to the next one only.
-fn chain() -> Rule {
-    let rows = (0..64usize).map(|s| vec![(s + 1).min(63); 32]).collect();
-    let pairs = (0..8).map(|i| Pair { r: set(63 - i..64), p: if i % 2 == 1 { set(0..1 + i) } else { vec![] } }).collect();
-    rule(3, rows, pairs)
-}
-
-/// No state is ever left.
-fn self_loops() -> Rule {
-    let rows = (0..64).map(|s| vec![s; 32]).collect();
-    let pairs = (0..8).map(|i| Pair { r: set(0..8 * i + 1), p: set(32..40 + i) }).collect();
-    rule(3, rows, pairs)
-}
-
-/// The only way from state 0 to pair 0 goes through all states. The events below `on` stay where they are, and event 0 of state 0 always does.
-fn long_way(on: usize) -> Rule {
-    let rows = (0..64usize).map(|s| (0..32).map(|e| if e < on.max((s == 0) as usize) { s } else { (s + 1).min(63) }).collect()).collect();
-    let pairs = (0..8).map(|i| Pair { r: set(63 - 7 * i..64), p: if i % 2 == 1 { set(0..1 + i) } else { vec![] } }).collect();
-    rule(3, rows, pairs)
-}
-
 fn main() {
     let mut bench = Bench { last: 0 };
     let (setups, waiting) = (monitor::sheet(&setups()), monitor::sheet(&waiting()));
@@ -277,7 +243,7 @@ fn main() {
     bench.evening("4,096 events, all store", &waiting, &[0; 4096]);
     bench.evening("4,096 events, mostly after a halt", &setups, &day);
     bench.evening("4,096 events, an evening of a crew", &setups, &quiet);
-    for (name, rule) in [("random", by_chance()), ("chain", chain()), ("self-loops", self_loops())] {
+    for (name, rule) in [("random", by_chance()), ("chain", chain()), ("self-loops", self_loops()), ("zigzag", zigzag())] {
         bench.making(&format!("reading, {}", name), &rule, 0);
         bench.making(&format!("making a sheet, {}", name), &rule, 2054);
     }

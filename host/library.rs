@@ -67,10 +67,10 @@ pub struct Reason {
 }
 
 extern "C" {
-    fn pachallu_make(rule: *const u8, rule_len: usize, sheet: *mut u8, sheet_len: usize) -> Made;
-    fn pachallu_print(rule: *const u8, rule_len: usize, text: *mut u8, text_len: usize) -> Made;
-    fn pachallu_find(job: *const u8, job_len: usize, office: *const u8, office_len: usize, number: u8, age: u16) -> Found;
-    fn pachallu_add(
+    pub fn pachallu_make(rule: *const u8, rule_len: usize, sheet: *mut u8, sheet_len: usize) -> Made;
+    pub fn pachallu_print(rule: *const u8, rule_len: usize, text: *mut u8, text_len: usize) -> Made;
+    pub fn pachallu_find(job: *const u8, job_len: usize, office: *const u8, office_len: usize, number: u8, age: u16) -> Found;
+    pub fn pachallu_add(
         book: *const u8,
         book_len: usize,
         number: u8,
@@ -79,8 +79,8 @@ extern "C" {
         out: *mut u8,
         out_len: usize,
     ) -> Made;
-    fn pachallu_fresh(sheet: *const u8, sheet_len: usize) -> Start;
-    fn pachallu_event(
+    pub fn pachallu_fresh(sheet: *const u8, sheet_len: usize) -> Start;
+    pub fn pachallu_event(
         sheet: *const u8,
         sheet_len: usize,
         state: u8,
@@ -91,7 +91,7 @@ extern "C" {
         output: *mut u8,
         output_len: usize,
     ) -> Answer;
-    fn pachallu_events(
+    pub fn pachallu_events(
         sheet: *const u8,
         sheet_len: usize,
         state: u8,
@@ -103,7 +103,7 @@ extern "C" {
         output: *mut u8,
         output_len: usize,
     ) -> Evening;
-    fn pachallu_why(rule: *const u8, rule_len: usize, state: u8, event: u8, way: *mut u8, way_len: usize) -> Reason;
+    pub fn pachallu_why(rule: *const u8, rule_len: usize, state: u8, event: u8, way: *mut u8, way_len: usize) -> Reason;
 }
 
 /// Where a buffer starts. NULL for an empty one where the program says so: C++ callers pass it (an empty vector's data()), and the header permits it.

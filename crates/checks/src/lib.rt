@@ -3,16 +3,19 @@
 ghost use mathlib.Core.Path.{_≡_};
 ghost use mathlib.Core.Bool.{not};
 ghost use mathlib.Core.List.{[]};
+ghost use Prim.Native.Nat.{_≤_};
 ghost use lib.ListN.{take, drop};
 ghost use Rattle.rule.specs.Classes.{forbidsSome};
 ghost use Rattle.rule.specs.Drawing.{body, pairAt};
+ghost use Rattle.rule.specs.Reach.{Closed};
 ghost use Rattle.rule.specs.Refusals.{refuseIf, firstOf, conditions};
 ghost use Rattle.rule.specs.Refusals as paper;
 ghost use Rattle.rule.specs.Sets.{namesPast};
 ghost use Rattle.rule.specs.declared.Refusal.the-variants.{Range};
-ghost use Rattle.checks.specs.Checked.{holds, checkedOf};
+ghost use Rattle.checks.specs.Checked.{holds, allBelow, checkedOf};
 use classes::banned;
 use operations::stops;
+use reach::event_into;
 use reach::next;
 use reach::reached;
 use reach::sets::contains;
@@ -35,12 +38,28 @@ fn check_range(shape: Shape) -> Verdict
     Verdict::Refused(Refusal::Range)
 }
 
-// 5: the first entry in row order that names no state.
+// Whether every entry of the table is below n.
+fn all_below(table: &[u8], n: u8) -> bool
+    ensures { λ r. ⌜ r ≡ allBelow n (now (table .entry)) ⌝ }
+{
+    let mut all = true;
+    let mut i = 0;
+    while i < table.len() {
+        all = all & (table[i] < n);
+        i += 1;
+    }
+    all
+}
+
+// 5: the first entry in row order that names no state. Where there is none, one look at the whole table says so.
 pub fn check_entries(shape: Shape, table: &[u8]) -> Verdict
     ensures { λ r. ⌜ r ≡ paper.entries (body shape (now (table .entry)) []) ⌝ }
 {
     let states = shape.states;
     let events = shape.events;
+    if all_below(table, states) {
+        return Verdict::Sound;
+    }
     let mut verdict = Verdict::Sound;
     'cells: for s in 0..states {
         let state = StateNo(s);
@@ -162,6 +181,25 @@ pub fn check_moves(shape: Shape, table: &[u8], pairs: [Pair; 8]) -> Verdict
     verdict
 }
 
+// The same of a table whose entries are states that sets can hold: in each row the first move into what is forbidden from its state.
+fn first_banned(shape: Shape, table: &[u8], pairs: [Pair; 8]) -> Verdict
+    requires { ⌜ (shape .states ≤ 64) × Closed (now table) (shape .states) (shape .events) ⌝ }
+    ensures { λ r. ⌜ r ≡ paper.moves (body shape (now (table .entry)) pairs) ⌝ }
+{
+    if shape.class == 4 {
+        return Verdict::Sound;
+    }
+    let events = shape.events;
+    for s in 0..shape.states {
+        let from = StateNo(s);
+        let e = event_into(table, events, from, banned(shape, pairs, from));
+        if e < events {
+            return Verdict::Refused(Refusal::Move(from, EventNo(e)));
+        }
+    }
+    Verdict::Sound
+}
+
 // 9: the lowest used pair by which the initial state is stopping.
 pub fn check_stopped(shape: Shape, table: &[u8], pairs: [Pair; 8]) -> Verdict
     ensures { λ r. ⌜ r ≡ paper.stopped (body shape (now (table .entry)) pairs) ⌝ }
@@ -189,15 +227,16 @@ pub fn check_empties(shape: Shape, pairs: [Pair; 8]) -> Verdict
     Verdict::Sound
 }
 
-// The checks 7 to 10 in order.
+// The checks 7 to 10 in order, of a table that passed check 5.
 fn check_from_excess(shape: Shape, table: &[u8], pairs: [Pair; 8]) -> Verdict
+    requires { ⌜ (shape .states ≤ 64) × Closed (now table) (shape .states) (shape .events) ⌝ }
     ensures { λ r. ⌜ r ≡ firstOf (drop 2 (conditions (body shape (now (table .entry)) pairs))) ⌝ }
 {
     let verdict = check_excess(shape, pairs);
     let Verdict::Sound = verdict else {
         return verdict;
     };
-    let verdict = check_moves(shape, table, pairs);
+    let verdict = first_banned(shape, table, pairs);
     let Verdict::Sound = verdict else {
         return verdict;
     };

@@ -12,9 +12,11 @@ use Rattle.octets.specs.Numbers as numbers
 use Rattle.octets.specs.Numbers.{digits}
 use Rattle.rule.specs.Range.{inRange}
 use Rattle.rule.specs.Sets.{has, including, Members}
-use Rattle.rule.specs.Reach.{placeOf, target, withMoves, reachedWithin, reachedSets}
+use Rattle.rule.specs.Backward.{reaching}
+use Rattle.rule.specs.Reach.{placeOf, target, withMoves, reachedWithin}
+use Rattle.rule.specs.Ways.{eventInto}
 use Rattle.rule.specs.Drawing.{body}
-use Rattle.rule.specs.Operations.{markOf, valueOf, smallestOf, operationsOf}
+use Rattle.rule.specs.Operations.{markOf, valueOf, smallestOf}
 use Rattle.rule.specs.Stopping.{stopsBy}
 use Rattle.rule.specs.Classes.{forbidsSome}
 use Rattle.rule.specs.Refusals.{toldOf, firstOf}
@@ -51,6 +53,7 @@ use Rattle.pachallu.proofs as pachallu
 use Rattle.trailer.proofs as trailer
 use Rattle.checks.proofs as checks
 use Rattle.classes.proofs as classes
+use Rattle.operations.specs.Marks.{operationIn, marksOf}
 use Rattle.operations.proofs as operations
 use Rattle.reach.proofs as reach
 use Rattle.rule.proofs as rule
@@ -213,9 +216,12 @@ pub operation-keeps : Keeps operations.operation.ended operations.operation.Read
     r ≡ smallestOf (take (a .1 .0) (a .0)) (a .1 .1 .0) (a .1 .1 .1 .0 .0)
 operation-keeps κs a x = x .told
 
-pub into-states-keeps : Keeps operations.into_states.ended operations.into_states.Reads.Learnt λ κs a r l.
-    r ≡ operationsOf (body (a .0) (now (a .1 .0)) (a .1 .1 .0))
-into-states-keeps κs a x = x .told
+pub Marks-at-keeps : Keeps operations.Marks.at.ended operations.Marks.at.Reads.Learnt λ κs a r l. r ≡ operationIn (a .0) (a .1 .0 .0)
+Marks-at-keeps κs a x = x .told
+
+pub mark-states-keeps : Keeps operations.mark_states.ended operations.mark_states.Reads.Learnt λ κs a r l.
+    r ≡ marksOf (body (a .0) (now (a .1 .0)) (a .1 .1 .0))
+mark-states-keeps κs a x = x .told
 
 pub stops-keeps : Keeps operations.stops.ended operations.stops.Reads.Learnt λ κs a r l. r ≡ stopsBy (a .0) (a .1 .0) (a .1 .1 .0 .0)
 stops-keeps κs a x = x .told
@@ -241,9 +247,13 @@ pub reached-keeps : Keeps reach.reached.ended reach.reached.Reads.Learnt λ κs 
     r ≡ reachedWithin (now (a .0)) (a .1 .0) (a .1 .1 .0) (a .1 .1 .1 .0 .0) (a .1 .0 - 1)
 reached-keeps κs a x = x .told
 
-pub reached-sets-keeps : Keeps reach.reached_sets.ended reach.reached_sets.Reads.Learnt λ κs a r l.
-    r ≡ reachedSets (now (a .0)) (a .1 .0) (a .1 .1 .0) (a .1 .1 .1 .0) (a .1 .0)
-reached-sets-keeps κs a x = x .told
+pub event-into-keeps : Keeps reach.event_into.ended reach.event_into.Reads.Learnt λ κs a r l.
+    r ≡ eventInto (target (now (a .0)) (a .1 .0)) (a .1 .0) (a .1 .1 .1 .0) (a .1 .1 .0 .0)
+event-into-keeps κs a x = x .told
+
+pub backward-keeps : Keeps reach.backward.ended reach.backward.Reads.Learnt λ κs a r l.
+    r ≡ reaching (target (now (a .0)) (a .1 .1 .0)) (a .1 .0) (a .1 .1 .0) (a .1 .1 .1 .0)
+backward-keeps κs a x = x .told
 
 -- numbers and places
 

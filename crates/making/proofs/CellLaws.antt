@@ -5,7 +5,7 @@ use native.Mathlib.Omega.{arith}
 use native.Mathlib.Numerals.{add-one}
 use mathlib.Core.Path.{_≡_, refl, sym, ap, _∙_}
 use mathlib.Core.List.{List, [], _∷_, _++_, map, append-nil}
-use lib.ListN.{length, getD, take, drop, set, replicate, length-append, length-map, drop-of-length-le}
+use lib.ListN.{length, getD, take, drop, set, length-append, length-map, drop-of-length-le}
 use lib.Seq.{take-suc, take-all, length-take-le}
 use borrow.Rule.Slice.PartMut.{putMid}
 use mir.Val.{Fits}
@@ -15,12 +15,15 @@ use Rattle.octets.specs.Copies.{copied}
 use Rattle.octets.proofs.CopyLaws.{copied-full}
 use Rattle.octets.proofs.ListLaws.{store-more, part-more}
 use Rattle.rule.specs.Drawing.{Drawing, body}
-use Rattle.rule.specs.Operations.{markOf, operationAt, operationsOf}
+use Rattle.rule.specs.Operations.{markOf}
 use Rattle.rule.specs.declared.Operation.{Operation}
 use Rattle.rule.specs.declared.Operation.the-variants.{Halt, Store, Dump}
 use Rattle.rule.specs.declared.Pair.{Pair}
 use Rattle.rule.specs.declared.Shape.{Shape}
-use Rattle.rule.proofs.ArrayLaws.{filled-at}
+use Rattle.rule.specs.WellDrawn.{WellDrawn}
+use Rattle.operations.specs.Marks.{operationIn, marksOf}
+use Rattle.operations.specs.declared.Marks.{Marks}
+use Rattle.operations.proofs.MarkLaws.{marks-at}
 use Rattle.rule.specs.declared.Refusal.the-variants.{Room}
 use Rattle.rule.specs.declared.Verdict.the-variants.{Sound}
 use Rattle.rule.specs.Putting.{PutPromise}
@@ -38,9 +41,9 @@ pub mark-fits : {x : ℕ} (o : Operation) → x ≡ markOf o → Fits w8 (64 * x
 mark-fits o e = omega (arith, mark-small o)
 
 -- the loop over the cells: next state + 64 * operation
-module _ (operations : List Operation) where
+module _ (marks : Marks) where
   abbrev pub withMark : ℕ → ℕ
-  withMark t = t + 64 * markOf (getD operations t Halt)
+  withMark t = t + 64 * markOf (operationIn marks t)
 
   map-snoc : (l : List ℕ) (x : ℕ) → map withMark (l ++ (x ∷ [])) ≡ map withMark l ++ (withMark x ∷ [])
   map-snoc [] x = refl
@@ -49,22 +52,16 @@ module _ (operations : List Operation) where
   module _ (table : List ℕ) where
     -- a cell is a byte
     module _ (i : ℕ) (low : (i : ℕ) → getD table i 0 < 64) where
-      pub entry-fits : Fits w64 (getD table i 0)
-      entry-fits = omega (arith, low i)
-
-      pub entry-in : getD table i 0 < 64
-      entry-in = low i
-
-      pub cell-fits : {x : ℕ} → x ≡ markOf (getD operations (getD table i 0) Halt) → Fits w8 (getD table i 0 + 64 * x)
-      cell-fits e = omega (arith, low i, mark-small (getD operations (getD table i 0) Halt))
+      pub cell-fits : {o : Operation} {x : ℕ} → o ≡ operationIn marks (getD table i 0) → x ≡ markOf o → Fits w8 (getD table i 0 + 64 * x)
+      cell-fits {o} q e = omega (arith, low i, mark-small o)
 
     module _ (out out₀ : List ℕ) (i : ℕ) (e : out ≡ map withMark (take i table) ++ drop i out₀) (n : length out₀ ≡ length table) where
       pub cells-more : i < length table
-          → {x : ℕ} → x ≡ markOf (getD operations (getD table i 0) Halt)
+          → {o : Operation} {x : ℕ} → o ≡ operationIn marks (getD table i 0) → x ≡ markOf o
           → set out i (getD table i 0 + 64 * x) ≡ map withMark (take (i + 1) table) ++ drop (i + 1) out₀
-      cells-more h is-x =
+      cells-more h is-o is-x =
           let m : length (map withMark (take i table)) ≡ i = length-map (take i table) withMark ∙ length-take-le i table (omega arith) in
-          rw (e, is-x, add-one, take-suc table i 0, map-snoc)
+          rw (e, is-x, is-o, add-one, take-suc table i 0, map-snoc)
           (store-more (map withMark (take i table)) out₀ i (withMark (getD table i 0)) 0 m (omega arith))
 
       pub cells-all : i ≤ length table → length table ≤ i → out ≡ map withMark table
@@ -89,8 +86,9 @@ cells-lent table out room = length-take-le (length table) out (omega arith)
 pub lent-cells : (table out : List ℕ) → length table + 6 ≤ length out → length table ≡ length (take (length table) out)
 lent-cells table out room = sym (cells-lent table out room)
 
-pub low-64 : (table : List ℕ) (n : ℕ) → n ≤ 64 → ((i : ℕ) → getD table i 0 < n) → (i : ℕ) → getD table i 0 < 64
-low-64 table n few low i = omega (arith, low i)
+pub low-64 : (h : Shape) (table : List ℕ) (pairs : List Pair) → WellDrawn (body h table pairs) → ((i : ℕ) → getD table i 0 < h .states)
+    → (i : ℕ) → getD table i 0 < 64
+low-64 h table pairs well low i = omega (arith, low i, well .few-states)
 
 -- a sheet has a cell for each entry of the table, and six bytes
 pub length-sheet : (d : Drawing) → length (sheetOf d) ≡ length (d .table) + 6
@@ -105,17 +103,16 @@ module _ (h : Shape) (table : List ℕ) (pairs : List Pair) (out : List ℕ) whe
   pub sheet-no-room : length out < length table + 6 → PutPromise Sound (sheetOf (body h table pairs)) out (Refused Room) out
   sheet-no-room l = keeps-no-room refl (rw sheet-size at l)
 
-  pub sheet-put : {operations : List Operation} {front end : List ℕ} → h .states ≤ 64 → ((i : ℕ) → getD table i 0 < h .states)
-      → length table + 6 ≤ length out → operations ≡ operationsOf (body h table pairs) → front ≡ map (withMark operations) table → end ≡ endOf h
+  pub sheet-put : {marks : Marks} {front end : List ℕ} → WellDrawn (body h table pairs) → ((i : ℕ) → getD table i 0 < h .states)
+      → length table + 6 ≤ length out → marks ≡ marksOf (body h table pairs) → front ≡ map (withMark marks) table → end ≡ endOf h
       → PutPromise Sound (sheetOf (body h table pairs)) out (Done (length table + 6))
       (putMid (length table) (length table + 6 - length table) (front ++ drop (length table) out) end)
   unfolding sheetOf digits
-  sheet-put {operations} {front} {end} few low room is-operations is-front is-end =
+  sheet-put {marks} {front} {end} well low room is-marks is-front is-end =
       let d = body h table pairs in
       let q : front ≡ map (cellOf d) table =
       is-front
-      ∙ map-below (h .states) (withMark operations) (cellOf d)
-      (λ t b. rw (is-operations, filled-at (operationAt d) (replicate 64 Halt) (h .states) t Halt b (omega arith))) table low in
+      ∙ map-below (h .states) (withMark marks) (cellOf d) (λ t b. rw (is-marks, marks-at d well t b)) table low in
       let n : length front ≡ length table = rw q (length-map table (cellOf d)) in
       let six : length (endOf h) ≡ length table + 6 - length table = omega arith in
       keeps-done refl sheet-size room

@@ -18,6 +18,8 @@ use Rattle.rule.specs.Putting.{PutPromise}
 use Rattle.rule.specs.declared.Written.{Written}
 use Rattle.rule.specs.declared.Written.the-variants.{Refused as Declined}
 use Rattle.rulefile.proofs.PartsLaws.{sound-file, table-drawn, SoundParts, sound-parts, parts-verdict}
+use Rattle.rulefile.proofs.WellLaws.{file-well}
+use Rattle.rule.specs.WellDrawn.{WellDrawn}
 use Rattle.rule.proofs.PutLaws.{keeps-refused}
 use Rattle.sheet.specs.Layout.{sheetOf}
 use Rattle.making.specs.Making.{MakePromise}
@@ -43,8 +45,18 @@ module _ (f : List ℕ) (p : Contents) (is : p ≡ partsOf f) where
     sound-is = sym (parts-verdict f is) ∙ sound
 
     -- what the sheet's writer asks
-    pub found-few : p .shape .states ≤ 64
-    found-few = parts .ranged .numbers .few-states
+    pub found-well : WellDrawn (body (p .shape) (take (p .end - p .start) (drop (p .start) f)) (p .pairs))
+    found-well =
+        let w = file-well f (sound-file f sound-is) in
+        rw (parts .table-is, parts .pairs-is, parts .drawn) (record {
+          few-states = w .few-states;
+          initial-in = w .initial-in;
+          closed = w .closed;
+          whole = w .whole;
+          R-in = w .R-in;
+          P-in = w .P-in;
+          none-into = w .none-into;
+        })
 
     pub found-low : (i : ℕ) → getD (take (p .end - p .start) (drop (p .start) f)) i 0 < p .shape .states
     found-low i = rw (parts .table-is, parts .drawn) (low (sound-formed f sound-is) i)

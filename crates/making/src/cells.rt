@@ -5,26 +5,28 @@ ghost use Prim.Native.Nat.{ℕ, _+_, _*_, _≤_, _<_};
 ghost use lib.ListN.{length, getD};
 ghost use Rattle.rule.specs.Drawing.{body};
 ghost use Rattle.rule.specs.Operations.{markOf};
-ghost use Rattle.rule.specs.declared.Operation.the-variants.{Halt};
+ghost use Rattle.rule.specs.WellDrawn.{WellDrawn};
 ghost use Rattle.rule.specs.declared.Verdict.the-variants.{Sound};
 ghost use Rattle.rule.specs.Putting.{PutPromise};
 ghost use Rattle.sheet.specs.Layout.{endOf, sheetOf};
-use operations::into_states;
-use rule::Operation;
+ghost use Rattle.operations.specs.Marks.{operationIn};
+use operations::Marks;
+use operations::mark_states;
 use rule::Pair;
 use rule::Refusal;
 use rule::Shape;
+use rule::StateNo;
 use rule::Written;
 
 // The cells: next state + 64 * operation of a move into it.
-fn put_cells(out: &mut [u8], table: &[u8], operations: [Operation; 64])
+fn put_cells(out: &mut [u8], table: &[u8], marks: Marks)
     requires { ⌜ (length (now out) ≡ length (now table)) × ((i : ℕ) → getD (now table) i 0 < 64) ⌝ }
-    ensures { λ _. ⌜ now (out .exit) ≡ map (λ t. t + 64 * markOf (getD operations t Halt)) (now (table .entry)) ⌝ }
+    ensures { λ _. ⌜ now (out .exit) ≡ map (λ t. t + 64 * markOf (operationIn marks t)) (now (table .entry)) ⌝ }
 {
     let mut i = 0;
     while i < table.len() {
         let t = table[i];
-        out[i] = t + 64 * operations[t as usize].mark();
+        out[i] = t + 64 * marks.at(StateNo(t)).mark();
         i += 1;
     }
 }
@@ -49,7 +51,7 @@ fn put_end(out: &mut [u8], shape: Shape)
 
 // Puts the sheet of a rule to the front of the output: refusal 16.
 pub(crate) fn put(out: &mut [u8], table: &[u8], shape: Shape, pairs: [Pair; 8]) -> Written
-    requires { ⌜ (shape .states ≤ 64) × ((i : ℕ) → getD (now table) i 0 < shape .states) × (length (now table) ≤ 2048) ⌝ }
+    requires { ⌜ WellDrawn (body shape (now table) pairs) × ((i : ℕ) → getD (now table) i 0 < shape .states) × (length (now table) ≤ 2048) ⌝ }
     ensures { λ r. ⌜ PutPromise Sound (sheetOf (body shape (now (table .entry)) pairs)) (now (out .entry)) r (now (out .exit)) ⌝ }
 {
     let count = table.len();
@@ -57,8 +59,8 @@ pub(crate) fn put(out: &mut [u8], table: &[u8], shape: Shape, pairs: [Pair; 8]) 
     if out.len() < size {
         return Written::Refused(Refusal::Room);
     }
-    let operations = into_states(shape, table, pairs);
-    put_cells(&mut out[..count], table, operations);
+    let marks = mark_states(shape, table, pairs);
+    put_cells(&mut out[..count], table, marks);
     put_end(&mut out[count..size], shape);
     Written::Done(size)
 }

@@ -9,8 +9,11 @@ value-one-answer κs a x y = (x .told ∙ sym (y .told), refl)
 pub operation-one-answer : OneAnswer proofs.operation.ended proofs.operation.Reads.Learnt
 operation-one-answer κs a x y = (x .told ∙ sym (y .told), refl)
 
-pub into-states-one-answer : OneAnswer proofs.into_states.ended proofs.into_states.Reads.Learnt
-into-states-one-answer κs a x y = (x .told ∙ sym (y .told), refl)
+pub Marks-at-one-answer : OneAnswer proofs.Marks.at.ended proofs.Marks.at.Reads.Learnt
+Marks-at-one-answer κs a x y = (x .told ∙ sym (y .told), refl)
+
+pub mark-states-one-answer : OneAnswer proofs.mark_states.ended proofs.mark_states.Reads.Learnt
+mark-states-one-answer κs a x y = (x .told ∙ sym (y .told), refl)
 
 pub stops-one-answer : OneAnswer proofs.stops.ended proofs.stops.Reads.Learnt
 stops-one-answer κs a x y = (x .told ∙ sym (y .told), refl)

@@ -1,14 +1,17 @@
 // The operation of a move, by its target, and the stopping states.
 ghost use mathlib.Core.Path.{_≡_};
 ghost use lib.ListN.{take};
+ghost use Rattle.rule.specs.Backward.{lostBy};
 ghost use Rattle.rule.specs.Drawing.{body};
-ghost use Rattle.rule.specs.Operations.{valueOf, smallestOf, operationsOf};
+ghost use Rattle.rule.specs.Operations.{valueOf, smallestOf};
+ghost use Rattle.rule.specs.Reach.{target};
+ghost use Rattle.rule.specs.Sets.{Members};
 ghost use Rattle.rule.specs.Stopping.{stopsBy};
-use reach::reached_sets;
+ghost use Rattle.operations.specs.Marks.{operationIn, marksOf};
+use reach::backward;
 use reach::sets::contains;
 use rule::Operation;
 use rule::Pair;
-use rule::Rule;
 use rule::Shape;
 use rule::StateNo;
 
@@ -56,20 +59,49 @@ pub fn operation(pairs: [Pair; 8], count: u8, reached: u64, target: StateNo) -> 
     least
 }
 
-// At each state of a rule the operation of a move into it, and halt past the states.
-pub fn into_states(shape: Shape, table: &[u8], pairs: [Pair; 8]) -> [Operation; 64]
-    ensures { λ r. ⌜ r ≡ operationsOf (body shape (now (table .entry)) pairs) ⌝ }
-{
-    let states = shape.states;
-    let sets = reached_sets(table, states, shape.events, [0u64; 64]);
-    let mut operations = [Operation::Halt; 64];
-    for s in 0..states {
-        let at = s as usize;
-        if s < Rule::STATES {
-            operations[at] = operation(pairs, shape.pairs, sets[at], StateNo(s));
+// The states that every pair accepts, and those where some pair halts.
+pub struct Marks {
+    pub good: u64,
+    pub halt: u64,
+}
+
+impl Marks {
+    // The operation of a move into t.
+    pub fn at(self, t: StateNo) -> Operation
+        ensures { λ r. ⌜ r ≡ operationIn self (t .0) ⌝ }
+    {
+        if contains(self.good, t) {
+            return Operation::Dump;
         }
+        if contains(self.halt, t) {
+            return Operation::Halt;
+        }
+        Operation::Store
     }
-    operations
+}
+
+// The states outside P from which no events lead into R.
+fn lost_by(table: &[u8], states: u8, events: u8, pair: Pair) -> u64
+    ensures { λ r. ⌜ Members r (lostBy (target (now (table .entry)) events) states events pair) ⌝ }
+{
+    !(pair.p | backward(table, states, events, pair.r))
+}
+
+// What a move into each state of a rule does: from each R one backward reach at a time.
+pub fn mark_states(shape: Shape, table: &[u8], pairs: [Pair; 8]) -> Marks
+    ensures { λ r. ⌜ r ≡ marksOf (body shape (now (table .entry)) pairs) ⌝ }
+{
+    let count = shape.pairs;
+    let mut left: usize = if count < 8 { count as usize } else { 8 };
+    let mut good: u64 = 0xffff_ffff_ffff_ffff;
+    let mut halt: u64 = 0;
+    while 0 < left {
+        left -= 1;
+        let pair = pairs[left];
+        good = (pair.r | pair.p) & good;
+        halt = lost_by(table, shape.states, shape.events, pair) | halt;
+    }
+    Marks { good, halt }
 }
 
 // Whether a state that reaches the set `reached` is stopping by a pair.

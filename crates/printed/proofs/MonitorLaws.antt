@@ -1,24 +1,24 @@
--- Laws of the whole monitor: what it is by an array of operations.
+-- Laws of the whole monitor: what it is by the two sets of states.
 -- Assumes nothing.
 use Prim.Native.Nat.{ℕ, zero, suc, _<_}
 use mathlib.Core.Path.{_≡_, refl, sym, ap, _∙_}
 use mathlib.Core.Bool.{Bool, true, false}
-use mathlib.Core.List.{List}
 use mathlib.Core.Logic.{_↔_}
 use native.Mathlib.Omega.{arith}
-use lib.ListN.{replicate}
 use Rattle.rule.specs.Drawing.{Drawing, states, events, next}
-use Rattle.rule.specs.Operations.{operationAt, operationsOf}
+use Rattle.rule.specs.Operations.{operationAt}
 use Rattle.rule.specs.Stopping.{stopping}
 use Rattle.rule.specs.WellDrawn.{WellDrawn}
 use Rattle.rule.specs.declared.Operation.{Operation}
 use Rattle.rule.specs.declared.Operation.the-variants.{Halt, Store, Dump}
 use Rattle.rule.specs.declared.Verdict.the-variants.{Sound}
-use Rattle.rule.proofs.ArrayLaws.{filled-at}
+use Rattle.operations.specs.Marks.{operationIn, marksOf}
+use Rattle.operations.specs.declared.Marks.{Marks}
+use Rattle.operations.proofs.MarkLaws.{marks-at}
 use Rattle.rule.proofs.OperationLaws.{operation-halt}
 use Rattle.rulefile.proofs.ListLaws.{flat-ext}
 use Rattle.printed.specs.Printing.{cellLine, cellOf, rowLines, cellLines, thoseBelow, stopLine, monitorText}
-use Rattle.printed.specs.Writers.{halts, into, haltsInto, textFrom}
+use Rattle.printed.specs.Writers.{halts, haltsInto, textFrom}
 
 halts-is : (o : Operation) (b : Bool) → (o ≡ Halt) ↔ (b ≡ true) → halts o ≡ b
 halts-is Halt b e = sym (e .0 refl)
@@ -32,17 +32,16 @@ unfolding thoseBelow
 those-same a b zero h = refl
 those-same a b (suc n) h = rw (those-same a b n (λ q l. h q (omega arith)), h n (omega arith))
 
-module _ {d : Drawing} (well : WellDrawn d) {l : List Operation} (array : l ≡ operationsOf d) where
-  operation-at : (q : ℕ) → q < states d → into l q ≡ operationAt d q
-  unfolding into
-  operation-at q h = rw array (filled-at (operationAt d) (replicate 64 Halt) (states d) q Halt h (omega (arith, well .few-states)))
+module _ {d : Drawing} (well : WellDrawn d) {l : Marks} (is : l ≡ marksOf d) where
+  operation-at : (q : ℕ) → q < states d → operationIn l q ≡ operationAt d q
+  operation-at q h = rw is (marks-at d well q h)
 
   -- a state is stopping exactly where a move into it halts
   stops-at : (q : ℕ) → q < states d → haltsInto l q ≡ stopping d q
   unfolding haltsInto
   stops-at q h = ap halts (operation-at q h) ∙ halts-is (operationAt d q) (stopping d q) (operation-halt d well q h)
 
-  cells-same : cellLines (next d) (into l) (events d) (states d) ≡ cellLines (next d) (operationAt d) (events d) (states d)
+  cells-same : cellLines (next d) (operationIn l) (events d) (states d) ≡ cellLines (next d) (operationAt d) (events d) (states d)
   unfolding cellLines rowLines cellOf
   cells-same =
       flat-ext _ _ (states d) (λ s a. flat-ext _ _ (events d) (λ e b.

@@ -6,10 +6,10 @@ use mathlib.Core.List.{List, [], _++_}
 use native.Mathlib.Omega.{arith}
 use lib.ListN.{length, take, drop}
 use Rattle.rule.specs.Drawing.{body}
-use Rattle.rule.specs.Operations.{reachOf, operationAt, operationsOf}
 use Rattle.rule.specs.Reach.{target}
 use Rattle.rule.specs.Refusals.{toldOf}
-use Rattle.rule.specs.declared.Operation.{Operation}
+use Rattle.operations.specs.Marks.{operationIn, marksOf}
+use Rattle.operations.specs.declared.Marks.{Marks}
 use Rattle.rule.specs.declared.Refusal.{Refusal}
 use Rattle.rule.specs.declared.Refusal.the-variants.{Room}
 use Rattle.rule.specs.declared.Shape.{Shape}
@@ -26,7 +26,7 @@ use Rattle.rule.proofs.PutLaws.{keeps-no-room, keeps-done}
 use Rattle.rulefile.proofs.WellLaws.{file-well, file-shaped}
 use Rattle.printed.specs.Placing.{Put}
 use Rattle.printed.specs.Printing.{header, cellLines, stopLine, refusalLine, monitorText, textMax, textOf, PrintPromise}
-use Rattle.printed.specs.Writers.{into, haltsInto, textFrom}
+use Rattle.printed.specs.Writers.{haltsInto, textFrom}
 use Rattle.printed.proofs.PlacingLaws.{then, put-size, put-all, put-none}
 use Rattle.printed.proofs.MonitorLaws.{monitor-is}
 use Rattle.printed.proofs.LengthLaws.{refusal-short, monitor-short}
@@ -50,10 +50,10 @@ module _ (f : List ℕ) where
       (λ r v. rw (text-refused v) (omega (arith, refusal-short (toldOf r))))
 
   -- it is the text of what was found of the file, and of the operations
-  module _ {p : Contents} (is : p ≡ partsOf f) {l : List Operation}
-      (found : l ≡ operationsOf (body (p .shape) (take (p .end - p .start) (drop (p .start) f)) (p .pairs))) where
-    same : verdictOn f ≡ Sound → l ≡ operationsOf (drawingIn f)
-    unfolding operationAt reachOf
+  module _ {p : Contents} (is : p ≡ partsOf f) {l : Marks}
+      (found : l ≡ marksOf (body (p .shape) (take (p .end - p .start) (drop (p .start) f)) (p .pairs))) where
+    same : verdictOn f ≡ Sound → l ≡ marksOf (drawingIn f)
+    unfolding marksOf
     same v = let s = sound-parts f is (parts-verdict f is ∙ v) in found ∙ rw (s .table-is, s .pairs-is, s .drawn)
 
     abbrev text : List ℕ
@@ -97,12 +97,12 @@ module _ (f : List ℕ) where
 
 -- ---- what was found of a file, part by part
 
-module _ {v : Verdict} (s : Shape) (table : List ℕ) (l : List Operation) {out : List ℕ} {at : ℕ} where
+module _ {v : Verdict} (s : Shape) (table : List ℕ) (l : Marks) {out : List ℕ} {at : ℕ} where
   pub refused-put : {r : Refusal} {t : Told} {out′ : List ℕ} {next : ℕ} → v ≡ Unsound r → t ≡ toldOf r → Put out at (refusalLine t) next out′
       → Put out at (textFrom v s table l) next out′
   refused-put e q p = rw (e, ← q) p
 
   pub sound-put : {out₁ out₂ out₃ : List ℕ} {at₁ at₂ at₃ : ℕ} → v ≡ Sound → Put out at (header s) at₁ out₁
-      → Put out₁ at₁ (cellLines (target table (s .events)) (into l) (s .events) (s .states)) at₂ out₂
+      → Put out₁ at₁ (cellLines (target table (s .events)) (operationIn l) (s .events) (s .states)) at₂ out₂
       → Put out₂ at₂ (stopLine (haltsInto l) (s .states)) at₃ out₃ → Put out at (textFrom v s table l) at₃ out₃
   sound-put e p q r = rw e (then p (then q r))

@@ -6,33 +6,25 @@ use mathlib.Core.Bool.{Bool, true, false, cond}
 use mathlib.Core.List.{List, [], _∷_, _++_, append-assoc, append-nil}
 use native.Mathlib.Omega.{arith}
 use native.Mathlib.Decide.{ℕ-discrete}
-use lib.ListN.{length, getD, length-append, List·getD-eq-default}
+use lib.ListN.{length, length-append}
 use Rattle.rule.specs.declared.Operation.{Operation}
 use Rattle.rule.specs.declared.Operation.the-variants.{Halt}
 use Rattle.rulefile.specs.Layout.{flatUpTo}
 use Rattle.printed.specs.Text.{decimal, rest, line}
 use Rattle.printed.specs.Placing.{lastPlace, Put}
 use Rattle.printed.specs.Printing.{thoseBelow, orNone, stopLine, stopWord}
-use Rattle.printed.specs.Writers.{halts, into, haltsInto, stopAt}
+use Rattle.printed.specs.Writers.{halts, haltsInto, stopAt}
+use Rattle.operations.specs.Marks.{operationIn}
+use Rattle.operations.specs.declared.Marks.{Marks}
 use Rattle.printed.proofs.PlacingLaws.{then, put-nothing, put-last}
 
--- the operation at a place of the array, and halt past it
-module _ (operations : List Operation) (t : ℕ) where
-  pub into-array : getD operations t Halt ≡ into operations t
-  unfolding into
-  into-array = refl
-
-  pub into-past : length operations ≡ 64 → 64 ≤ t → Halt ≡ into operations t
-  unfolding into
-  into-past n h = sym (List·getD-eq-default operations Halt (omega arith))
-
 -- what is put of one state
-module _ (operations : List Operation) (q : ℕ) {o : Operation} (is : o ≡ into operations q) {out : List ℕ} {at : ℕ} where
-  pub stop-put : {out′ : List ℕ} {next : ℕ} → o ≡ Halt → Put out at (32 ∷ decimal q) next out′ → Put out at (stopAt (haltsInto operations) q) next out′
+module _ (marks : Marks) (q : ℕ) {o : Operation} (is : o ≡ operationIn marks q) {out : List ℕ} {at : ℕ} where
+  pub stop-put : {out′ : List ℕ} {next : ℕ} → o ≡ Halt → Put out at (32 ∷ decimal q) next out′ → Put out at (stopAt (haltsInto marks) q) next out′
   unfolding stopAt haltsInto
   stop-put e p = rw (← is, e) p
 
-  pub stop-not : {x : Operation} → o ≡ x → halts x ≡ false → length out ≤ lastPlace → at ≤ lastPlace → Put out at (stopAt (haltsInto operations) q) at out
+  pub stop-not : {x : Operation} → o ≡ x → halts x ≡ false → length out ≤ lastPlace → at ≤ lastPlace → Put out at (stopAt (haltsInto marks) q) at out
   unfolding stopAt haltsInto
   stop-not e n s h = rw (← is, e, n) (put-nothing out at s h)
 

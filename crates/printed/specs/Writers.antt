@@ -3,7 +3,6 @@
 use Prim.Native.Nat.{ℕ}
 use mathlib.Core.Bool.{Bool, true, false, cond}
 use mathlib.Core.List.{List, [], _∷_, _++_}
-use lib.ListN.{getD}
 use Rattle.rule.specs.Reach.{target}
 use Rattle.rule.specs.Refusals.{toldOf}
 use Rattle.rule.specs.declared.Operation.{Operation}
@@ -11,6 +10,8 @@ use Rattle.rule.specs.declared.Operation.the-variants.{Halt, Store, Dump}
 use Rattle.rule.specs.declared.Shape.{Shape}
 use Rattle.rule.specs.declared.Verdict.{Verdict}
 use Rattle.rule.specs.declared.Verdict.the-variants.{Sound, Refused}
+use Rattle.operations.specs.Marks.{operationIn}
+use Rattle.operations.specs.declared.Marks.{Marks}
 use Rattle.printed.specs.Text.{decimal}
 use Rattle.printed.specs.Printing.{operationWord, header, cellLines, stopLine, refusalLine}
 
@@ -24,20 +25,17 @@ halts Halt = true
 halts Store = false
 halts Dump = false
 
--- the operation of a move into t, by an array
-unfoldable pub into : List Operation → ℕ → Operation
-into operations t = getD operations t Halt
-
-unfoldable pub haltsInto : List Operation → ℕ → Bool
-haltsInto operations t = halts (into operations t)
+-- whether a move into t halts, by the two sets of states
+unfoldable pub haltsInto : Marks → ℕ → Bool
+haltsInto marks t = halts (operationIn marks t)
 
 -- state q after a space where it stops, or nothing
 unfoldable pub stopAt : (ℕ → Bool) → ℕ → List ℕ
 stopAt stopping q = cond (stopping q) (32 ∷ decimal q) []
 
 -- the text of a verdict, a shape, a table, and the operation of a move into each state
-abbrev pub textFrom : Verdict → Shape → List ℕ → List Operation → List ℕ
-textFrom Sound s table operations =
+abbrev pub textFrom : Verdict → Shape → List ℕ → Marks → List ℕ
+textFrom Sound s table marks =
     header s
-    ++ (cellLines (target table (s .events)) (into operations) (s .events) (s .states) ++ stopLine (haltsInto operations) (s .states))
-textFrom (Refused r) s table operations = refusalLine (toldOf r)
+    ++ (cellLines (target table (s .events)) (operationIn marks) (s .events) (s .states) ++ stopLine (haltsInto marks) (s .states))
+textFrom (Refused r) s table marks = refusalLine (toldOf r)

@@ -6,8 +6,8 @@ ghost use Rattle.printed.specs.Writers.{textFrom};
 mod lines;
 mod text;
 
-use operations::into_states;
-use rule::Operation;
+use operations::Marks;
+use operations::mark_states;
 use rule::Refusal;
 use rule::Shape;
 use rule::Verdict;
@@ -17,21 +17,15 @@ use rule::Written;
 pub const TEXT_MAX: usize = 32768;
 
 // Prints what was found of a file to the front of the output: its refusal, or the monitor with the operation of a move into each state.
-fn put_text(
-    out: &mut [u8],
-    verdict: Verdict,
-    shape: Shape,
-    table: &[u8],
-    operations: [Operation; 64],
-) -> usize
-    ensures { λ r. ⌜ Put (now (out .entry)) 0 (textFrom verdict shape (now (table .entry)) operations) r (now (out .exit)) ⌝ }
+fn put_text(out: &mut [u8], verdict: Verdict, shape: Shape, table: &[u8], marks: Marks) -> usize
+    ensures { λ r. ⌜ Put (now (out .entry)) 0 (textFrom verdict shape (now (table .entry)) marks) r (now (out .exit)) ⌝ }
 {
     if let Verdict::Refused(refusal) = verdict {
         return lines::put_refusal(out, 0, refusal.told());
     }
     let cells = lines::put_header(out, 0, shape);
-    let stop = lines::put_cells(out, cells, shape.states, table, shape.events, operations);
-    lines::put_stop_line(out, stop, shape.states, operations)
+    let stop = lines::put_cells(out, cells, shape.states, table, shape.events, marks);
+    lines::put_stop_line(out, stop, shape.states, marks)
 }
 
 // Prints a rule file's monitor, or its refusal, to the front of the output. A text that does not fit is refused 16.
@@ -45,10 +39,10 @@ pub fn print(file: &[u8], out: &mut [u8]) -> Written
     let verdict = parts.verdict;
     let shape = parts.shape;
     let pairs = parts.pairs;
-    let operations = into_states(shape, table, pairs);
-    let size = put_text(&mut out[..0], verdict, shape, table, operations);
+    let marks = mark_states(shape, table, pairs);
+    let size = put_text(&mut out[..0], verdict, shape, table, marks);
     if out.len() < size {
         return Written::Refused(Refusal::Room);
     }
-    Written::Done(put_text(out, verdict, shape, table, operations))
+    Written::Done(put_text(out, verdict, shape, table, marks))
 }

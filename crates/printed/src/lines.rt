@@ -4,10 +4,12 @@ ghost use Rattle.rule.specs.Reach.{target};
 ghost use Rattle.rulefile.specs.Layout.{flatUpTo};
 ghost use Rattle.printed.specs.Placing.{Put};
 ghost use Rattle.printed.specs.Printing.{header, cellOf, rowLines, cellLines, stopLine, refusalLine};
-ghost use Rattle.printed.specs.Writers.{cellEnd, into, haltsInto, stopAt};
+ghost use Rattle.printed.specs.Writers.{cellEnd, haltsInto, stopAt};
+ghost use Rattle.operations.specs.Marks.{operationIn};
 use crate::text::put;
 use crate::text::put_number;
 use crate::text::put_two;
+use operations::Marks;
 use reach::next;
 use rule::EventNo;
 use rule::Operation;
@@ -46,18 +48,6 @@ fn put_operation(out: &mut [u8], at: usize, operation: Operation) -> usize
     }
 }
 
-// The operation of a move into t.
-fn at_target(operations: [Operation; 64], t: StateNo) -> Operation
-    ensures { λ r. ⌜ r ≡ into operations (t .0) ⌝ }
-{
-    let i = t.0 as usize;
-    if i < 64 {
-        operations[i]
-    } else {
-        Operation::Halt
-    }
-}
-
 // A cell: state, event, next state, operation.
 fn put_cell(
     out: &mut [u8],
@@ -66,30 +56,23 @@ fn put_cell(
     e: EventNo,
     table: &[u8],
     events: u8,
-    operations: [Operation; 64],
+    marks: Marks,
 ) -> usize
-    ensures { λ r. ⌜ Put (now (out .entry)) at (cellOf (target (now (table .entry)) events) (into operations) (s .0) (e .0)) r (now (out .exit)) ⌝ }
+    ensures { λ r. ⌜ Put (now (out .entry)) at (cellOf (target (now (table .entry)) events) (operationIn marks) (s .0) (e .0)) r (now (out .exit)) ⌝ }
 {
     let t = next(table, events, s, e);
     let mut end = put_number(out, at, b"", s.0);
     end = put_two(out, end, e.0, t.0);
-    put_operation(out, end, at_target(operations, t))
+    put_operation(out, end, marks.at(t))
 }
 
 // The cells of a state.
-fn put_row(
-    out: &mut [u8],
-    at: usize,
-    s: StateNo,
-    table: &[u8],
-    events: u8,
-    operations: [Operation; 64],
-) -> usize
-    ensures { λ r. ⌜ Put (now (out .entry)) at (rowLines (target (now (table .entry)) events) (into operations) events (s .0)) r (now (out .exit)) ⌝ }
+fn put_row(out: &mut [u8], at: usize, s: StateNo, table: &[u8], events: u8, marks: Marks) -> usize
+    ensures { λ r. ⌜ Put (now (out .entry)) at (rowLines (target (now (table .entry)) events) (operationIn marks) events (s .0)) r (now (out .exit)) ⌝ }
 {
     let mut end = at;
     for e in 0..events {
-        end = put_cell(out, end, s, EventNo(e), table, events, operations);
+        end = put_cell(out, end, s, EventNo(e), table, events, marks);
     }
     end
 }
@@ -101,22 +84,22 @@ pub(crate) fn put_cells(
     states: u8,
     table: &[u8],
     events: u8,
-    operations: [Operation; 64],
+    marks: Marks,
 ) -> usize
-    ensures { λ r. ⌜ Put (now (out .entry)) at (cellLines (target (now (table .entry)) events) (into operations) events states) r (now (out .exit)) ⌝ }
+    ensures { λ r. ⌜ Put (now (out .entry)) at (cellLines (target (now (table .entry)) events) (operationIn marks) events states) r (now (out .exit)) ⌝ }
 {
     let mut end = at;
     for s in 0..states {
-        end = put_row(out, end, StateNo(s), table, events, operations);
+        end = put_row(out, end, StateNo(s), table, events, marks);
     }
     end
 }
 
 // A state after a space where a move into it halts.
-fn put_stop(out: &mut [u8], at: usize, q: StateNo, operations: [Operation; 64]) -> usize
-    ensures { λ r. ⌜ Put (now (out .entry)) at (stopAt (haltsInto operations) (q .0)) r (now (out .exit)) ⌝ }
+fn put_stop(out: &mut [u8], at: usize, q: StateNo, marks: Marks) -> usize
+    ensures { λ r. ⌜ Put (now (out .entry)) at (stopAt (haltsInto marks) (q .0)) r (now (out .exit)) ⌝ }
 {
-    match at_target(operations, q) {
+    match marks.at(q) {
         Operation::Halt => put_number(out, at, b" ", q.0),
         Operation::Store => at,
         Operation::Dump => at,
@@ -124,27 +107,22 @@ fn put_stop(out: &mut [u8], at: usize, q: StateNo, operations: [Operation; 64]) 
 }
 
 // Each such state, rising.
-fn put_stops(out: &mut [u8], at: usize, states: u8, operations: [Operation; 64]) -> usize
-    ensures { λ r. ⌜ Put (now (out .entry)) at (flatUpTo (stopAt (haltsInto operations)) states) r (now (out .exit)) ⌝ }
+fn put_stops(out: &mut [u8], at: usize, states: u8, marks: Marks) -> usize
+    ensures { λ r. ⌜ Put (now (out .entry)) at (flatUpTo (stopAt (haltsInto marks)) states) r (now (out .exit)) ⌝ }
 {
     let mut end = at;
     for q in 0..states {
-        end = put_stop(out, end, StateNo(q), operations);
+        end = put_stop(out, end, StateNo(q), marks);
     }
     end
 }
 
 // The last line: the stopping states, which are those into which a move halts.
-pub(crate) fn put_stop_line(
-    out: &mut [u8],
-    at: usize,
-    states: u8,
-    operations: [Operation; 64],
-) -> usize
-    ensures { λ r. ⌜ Put (now (out .entry)) at (stopLine (haltsInto operations) states) r (now (out .exit)) ⌝ }
+pub(crate) fn put_stop_line(out: &mut [u8], at: usize, states: u8, marks: Marks) -> usize
+    ensures { λ r. ⌜ Put (now (out .entry)) at (stopLine (haltsInto marks) states) r (now (out .exit)) ⌝ }
 {
     let words = put(out, at, b"stop");
-    let stops = put_stops(out, words, states, operations);
+    let stops = put_stops(out, words, states, marks);
     if stops == words {
         return put(out, stops, b" -\n");
     }

@@ -18,8 +18,11 @@ reached-within-one-answer κs a x y = (x .told ∙ sym (y .told), refl)
 pub reached-one-answer : OneAnswer proofs.reached.ended proofs.reached.Reads.Learnt
 reached-one-answer κs a x y = (x .told ∙ sym (y .told), refl)
 
-pub reached-sets-one-answer : OneAnswer proofs.reached_sets.ended proofs.reached_sets.Reads.Learnt
-reached-sets-one-answer κs a x y = (x .told ∙ sym (y .told), refl)
-
 pub with-moves-one-answer : OneAnswer proofs.with_moves.ended proofs.with_moves.Reads.Learnt
 with-moves-one-answer κs a x y = (x .told ∙ sym (y .told), refl)
+
+pub event-into-one-answer : OneAnswer proofs.event_into.ended proofs.event_into.Reads.Learnt
+event-into-one-answer κs a x y = (x .told ∙ sym (y .told), refl)
+
+pub backward-one-answer : OneAnswer proofs.backward.ended proofs.backward.Reads.Learnt
+backward-one-answer κs a x y = (x .told ∙ sym (y .told), refl)

@@ -1,23 +1,39 @@
 -- What the loops and calls of src/lib.rt build, one step at a time.
 -- Assumes nothing.
 use mathlib.Core.Path.{_≡_, refl, sym, ap, _∙_}
-use mathlib.Core.Bool.{true, false}
+use mathlib.Core.Bool.{Bool, true, false}
 use mathlib.Core.List.{List}
-use Prim.Native.Nat.{ℕ, zero, suc, _+_, _-_, _/_, _^_, _≤_, _<_}
+use Prim.Native.Nat.{ℕ, zero, suc, _+_, _-_, _/_, _%_, _^_, _≤_, _<_}
 use native.Mathlib.Omega.{arith}
 use native.Mathlib.Nat.{add-zero, add-suc}
 use native.Mathlib.Numerals.{add-one}
 use lib.ListN.{length, getD, List·getD-eq-default}
 use lib.Bits.{bitXor}
 use lib.Count.{trailingZeros}
+use lib.Dec.{ltb}
 use lib.Pow.{shr-shr, shr-le}
 use mir.Syntax.{w8}
 use mir.Val.{Fits}
+use borrow.Author.Tests.{lt-ltb, le-ltb}
+use Rattle.rule.specs.Backward.{withSource, sweptUp, sweptDown}
+use Rattle.rule.specs.Ways.{eventInto}
 use Rattle.rule.specs.Sets.{has, including}
 use Rattle.rule.specs.Reach.{placeOf, target, withMoves, movedBelow, movedSet, spread, reachedWithin}
-use Rattle.rule.proofs.SetLaws.{has-none, has-past, has-shifted, lowest-in, lowest-first, below-or}
+use Rattle.rule.proofs.SetLaws.{has-of-bit, bit-of-has, has-none, has-past, has-shifted, lowest-in, lowest-first, below-or, true-or, including-old}
 use Rattle.rule.proofs.MoveLaws.{moved-fresh}
-use Rattle.rule.proofs.BoolLaws.{clash}
+use Rattle.rule.proofs.BoolLaws.{clash, not-so}
+use Rattle.rule.proofs.LeastLaws.{least-is, least-none}
+
+-- a member by the bit that the code looks at: past 63 there is none
+module _ (x i : ℕ) where
+  pub bit-one : i < 64 → x / 2 ^ (i % 64) % 2 ≡ 1 → true ≡ has x i
+  bit-one l b = let e : i % 64 ≡ i = omega arith in sym (has-of-bit x i (rw e at b))
+
+  pub bit-none : x < 2 ^ 64 → (x / 2 ^ (i % 64) % 2 ≡ 1 → ⊥) → false ≡ has x i
+  bit-none h d =
+      below-or i 64
+      (λ l. let e : i % 64 ≡ i = omega arith in sym (not-so (has x i) (λ m. d (rw e (bit-of-has x i m)))))
+      (λ l. sym (has-past 64 x i h l))
 
 module _ (table : List ℕ) (k : ℕ) where
   -- past the table every move leads to state 0
@@ -151,8 +167,83 @@ module _ (table : List ℕ) (n k : ℕ) where
   unfolding reachedWithin
   within q m x r ix ir = cc
 
-  pub within-all : (q m r : ℕ) → m ≡ n - 1 → r ≡ reachedWithin table n k q m → r ≡ reachedWithin table n k q (n - 1)
-  within-all q m r e ir = cc
+  -- the loop from x₀: what is reached from here in the moves left is what is reached from the start in all of them
+  module _ (x₀ m₀ x m : ℕ) (rest : spread table n k x (m - 1) ≡ spread table n k x₀ m₀) where
+    pub loop-done : (q : ℕ) → x₀ ≡ including 0 q → m ≤ 1 → x ≡ reachedWithin table n k q m₀
+    loop-done q is h = within q m₀ x₀ x is (spread-none x (m - 1) (omega arith) ∙ rest)
 
-  pub within-none : (q m r : ℕ) → n ≤ 0 → m ≡ 0 → r ≡ reachedWithin table n k q m → r ≡ reachedWithin table n k q (n - 1)
-  within-none q m r hn hm ir = within-all q m r (omega arith) ir
+    module _ (f y : ℕ) (is-y : y ≡ movedBelow table k f x n) (only : movedBelow table k f x n ≡ movedSet table n k x) where
+      pub loop-stops : (q : ℕ) → x₀ ≡ including 0 q → y ≡ x → x ≡ reachedWithin table n k q m₀
+      loop-stops q is same = within q m₀ x₀ x is (spread-stops x f y is-y only (m - 1) same ∙ rest)
+
+      pub loop-more : 1 < m → spread table n k y (m - 1 - 1) ≡ spread table n k x₀ m₀
+      loop-more h = spread-more x f y is-y only (m - 1) (spread table n k y (m - 1 - 1)) (λ z. omega arith) refl ∙ rest
+
+-- the lowest event of a row that leads into x: none of those below e does
+module _ (table : List ℕ) (k s x : ℕ) where
+  abbrev pub NoneYet : ℕ → Type 0
+  NoneYet e = (i : ℕ) → i < e → has x (target table k s i) ≡ false
+
+  pub none-yet : NoneYet 0
+  none-yet i h = absurd (omega arith)
+
+  module _ (e t : ℕ) (is-t : t ≡ target table k s e) (b : Bool) (is : b ≡ has x t) (before : NoneYet e) where
+    pub into-more : b ≡ false → NoneYet (e + 1)
+    into-more o i h = below-or i e (λ l. before i l) (λ l. let q : i ≡ e = omega arith in rw (q, ← is-t) (sym is ∙ o))
+
+    pub into-found : e < k → b ≡ true → e ≡ eventInto (target table k) k x s
+    unfolding eventInto
+    into-found h y = sym (least-is (λ e. has x (target table k s e)) k e h (rw (← is-t) (sym is ∙ y)) before)
+
+  -- the same of a cell that is read at its place, by its bit
+  module _ (e i : ℕ) (q : i ≡ placeOf k s e) (before : NoneYet e) where
+    pub bit-more : x < 2 ^ 64 → (x / 2 ^ (getD table i 0 % 64) % 2 ≡ 1 → ⊥) → NoneYet (e + 1)
+    bit-more h d = into-more e (getD table i 0) (target-at table k s e i q) false (bit-none x (getD table i 0) h d) before refl
+
+    pub bit-found : e < k → getD table i 0 < 64 → x / 2 ^ (getD table i 0 % 64) % 2 ≡ 1 → e ≡ eventInto (target table k) k x s
+    bit-found h l o = into-found e (getD table i 0) (target-at table k s e i q) true (bit-one x (getD table i 0) l o) before h refl
+
+  pub into-empty : x ≡ 0 → k ≡ eventInto (target table k) k x s
+  unfolding eventInto
+  into-empty z = sym (least-none (λ e. has x (target table k s e)) k (λ i h. rw z (has-none (target table k s i))))
+
+  pub into-never : (e : ℕ) → e ≤ k → k ≤ e → NoneYet e → k ≡ eventInto (target table k) k x s
+  unfolding eventInto
+  into-never e le ge before = sym (least-none (λ e. has x (target table k s e)) k (λ i h. before i (omega arith)))
+
+-- a set with a state that leads into it: the state is a member, it does lead, it does not
+module _ (next : ℕ → ℕ → ℕ) (k s x : ℕ) where
+  pub source-in : {b : Bool} → b ≡ has x s → b ≡ true → x ≡ withSource next k x s
+  unfolding withSource
+  source-in is y = true-or (ltb (eventInto next k x s) k) (λ l. rw (l, including-old x s (sym is ∙ y))) (λ l. rw l)
+
+  module _ (e : ℕ) (is : e ≡ eventInto next k x s) where
+    pub source-new : (r : ℕ) → e < k → r ≡ including x s → r ≡ withSource next k x s
+    unfolding withSource
+    source-new r h q = rw (← is, lt-ltb e k h) q
+
+    pub source-none : k ≤ e → x ≡ withSource next k x s
+    unfolding withSource
+    source-none h = rw (← is, le-ltb e k h)
+
+-- a sweep up and a sweep down
+module _ (next : ℕ → ℕ → ℕ) (k x : ℕ) where
+  pub up-none : x ≡ sweptUp next k x 0
+  unfolding sweptUp
+  up-none = refl
+
+  pub up-more : (s out r : ℕ) → out ≡ sweptUp next k x s → r ≡ withSource next k out s → r ≡ sweptUp next k x (s + 1)
+  unfolding sweptUp
+  up-more s out r io ir = rw add-one (cc)
+
+  pub up-all : (s n out : ℕ) → s ≤ n → n ≤ s → out ≡ sweptUp next k x s → out ≡ sweptUp next k x n
+  up-all s n out le ge io = let q : s ≡ n = omega arith in cc
+
+  pub down-more : (i z r : ℕ) → 0 < i → sweptDown next k x i ≡ z → r ≡ withSource next k x (i - 1) → sweptDown next k r (i - 1) ≡ z
+  unfolding sweptDown
+  down-more zero z r h is ir = absurd (omega arith)
+  down-more (suc i) z r h is ir = let e : suc i - 1 ≡ i = omega arith in rw (ir, e) is
+
+  pub down-all : (i z : ℕ) → i ≤ 0 → sweptDown next k x i ≡ z → x ≡ z
+  unfolding sweptDown
+  down-all i z h is = let e : i ≡ 0 = omega arith in rw e at is

@@ -1,10 +1,13 @@
 // The moves of a lent table, and the states that they reach.
 ghost use mathlib.Core.Path.{_≡_};
 ghost use Prim.Native.Nat.{_-_};
-ghost use Rattle.rule.specs.Reach.{target, withMoves, movedBelow, movedSet, spread, reachedWithin, reachedSets};
+ghost use Rattle.rule.specs.Backward.{reaching, withSource, sweptUp, sweptDown};
+ghost use Rattle.rule.specs.Reach.{target, withMoves, movedBelow, movedSet, spread, reachedWithin};
+ghost use Rattle.rule.specs.Ways.{eventInto};
 
 pub mod sets;
 
+use crate::sets::contains;
 use crate::sets::insert;
 use rule::EventNo;
 use rule::Rule;
@@ -85,23 +88,115 @@ pub fn reached_within(table: &[u8], states: u8, events: u8, q: StateNo, moves: u
     spread_within(table, states, events, start, start, moves)
 }
 
-// The states reached from q in any number of moves: N - 1 are always enough.
+// The states reached from q in any number of moves: N - 1 are always enough. The same without recursion, for who has little stack.
 pub fn reached(table: &[u8], states: u8, events: u8, q: StateNo) -> u64
     ensures { λ r. ⌜ r ≡ reachedWithin (now (table .entry)) states events (q .0) (states - 1) ⌝ }
 {
-    let moves = if 0 < states { states - 1 } else { 0 };
-    reached_within(table, states, events, q, moves)
+    let mut seen = insert(0, q);
+    let mut fresh = seen;
+    let mut left = states;
+    while 1 < left {
+        let wider = moved(table, states, events, fresh, seen);
+        if wider == seen {
+            return seen;
+        }
+        fresh = wider ^ seen;
+        seen = wider;
+        left -= 1;
+    }
+    seen
 }
 
-// The array with, at each of the rule's states, the set that it reaches.
-pub fn reached_sets(table: &[u8], states: u8, events: u8, mut sets: [u64; 64]) -> [u64; 64]
-    ensures { λ r. ⌜ r ≡ reachedSets (now (table .entry)) states events sets states ⌝ }
+// The lowest event that leads from s into the set, or the number of events where none does, cell by cell.
+fn event_by_cells(table: &[u8], events: u8, s: StateNo, set: u64) -> u8
+    ensures { λ r. ⌜ r ≡ eventInto (target (now (table .entry)) events) events set (s .0) ⌝ }
 {
-    for s in 0..states {
-        let at = s as usize;
-        if s < Rule::STATES {
-            sets[at] = reached(table, states, events, StateNo(s));
+    for e in 0..events {
+        if contains(set, next(table, events, s, EventNo(e))) {
+            return e;
         }
     }
-    sets
+    events
+}
+
+// The same: the row is read up to the first such event, and not at all for the empty set. The bit is looked at before the bound, which
+// a table of states keeps. Only where it does not, and where the row is not whole, is each cell asked for by `next`.
+pub fn event_into(table: &[u8], events: u8, s: StateNo, set: u64) -> u8
+    ensures { λ r. ⌜ r ≡ eventInto (target (now (table .entry)) events) events set (s .0) ⌝ }
+{
+    if set == 0 {
+        return events;
+    }
+    let end = place(events, s, EventNo(events));
+    let mut far = table.len() < end;
+    if !far {
+        for e in 0..events {
+            let t = table[place(events, s, EventNo(e))];
+            if (set >> (t % 64)) % 2 == 1 {
+                if t < Rule::STATES {
+                    return e;
+                }
+                far = true;
+                break;
+            }
+        }
+    }
+    if far {
+        return event_by_cells(table, events, s, set);
+    }
+    events
+}
+
+// The set with s, where one move leads from s into it. A member is not tried.
+fn with_source(table: &[u8], events: u8, s: StateNo, set: u64) -> u64
+    ensures { λ r. ⌜ r ≡ withSource (target (now (table .entry)) events) events set (s .0) ⌝ }
+{
+    if contains(set, s) {
+        return set;
+    }
+    if event_into(table, events, s, set) < events {
+        return insert(set, s);
+    }
+    set
+}
+
+// Each state in turn, going up.
+fn swept_up(table: &[u8], states: u8, events: u8, set: u64) -> u64
+    ensures { λ r. ⌜ r ≡ sweptUp (target (now (table .entry)) events) events set states ⌝ }
+{
+    let mut out = set;
+    for s in 0..states {
+        out = with_source(table, events, StateNo(s), out);
+    }
+    out
+}
+
+// Each state in turn, going down.
+fn swept_down(table: &[u8], states: u8, events: u8, set: u64) -> u64
+    ensures { λ r. ⌜ r ≡ sweptDown (target (now (table .entry)) events) events set states ⌝ }
+{
+    let mut out = set;
+    let mut left = states;
+    while 0 < left {
+        left -= 1;
+        out = with_source(table, events, StateNo(left), out);
+    }
+    out
+}
+
+// The states from which some events lead into the set; zero events count. One set is swept, down and up, until a sweep adds nothing.
+pub fn backward(table: &[u8], states: u8, events: u8, set: u64) -> u64
+    ensures { λ r. ⌜ r ≡ reaching (target (now (table .entry)) events) states events set ⌝ }
+{
+    let mut back = set;
+    loop {
+        let down = swept_down(table, states, events, back);
+        if down == back {
+            return back;
+        }
+        back = swept_up(table, states, events, down);
+        if back == down {
+            return down;
+        }
+    }
 }

@@ -34,7 +34,7 @@ count-one x q (suc i) m h =
     (λ l. let e : q ≡ i = omega arith in omega (arith, bit-of-has x i (rw e at m)))
 
 module _ (x y : ℕ) (sub : Within x y) where
-  count-mono : (i : ℕ) → count x i ≤ count y i
+  pub count-mono : (i : ℕ) → count x i ≤ count y i
   unfolding count
   count-mono zero = omega arith
   count-mono (suc i) = omega (arith, count-mono i, bit-le x y sub i)

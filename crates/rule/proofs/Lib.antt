@@ -8,9 +8,10 @@ pub mod MoveLaws
 pub mod CountLaws
 pub mod WayLaws
 pub mod ReachLaws
--- the shortest way into a set
+-- the lowest number where a test holds, the shortest way into a set, and backward reach
 pub mod LeastLaws
 pub mod ShortestLaws
+pub mod BackwardLaws
 -- refusals: which is first, when each is given, and their numbers
 pub mod BoolLaws
 pub mod RangeLaws

@@ -12,7 +12,7 @@ use lib.Count.{trailingZeros, trailing-le}
 use lib.Pow.{pow-pos, pow-lt, pow-add, shl-shr, shr-shr, pow-mono, shl-exact}
 use lib.Dec.{eqb}
 use borrow.Author.Tests.{eqb-true, eqb-false, eq-eqb, ne-eqb, lt-ltb, le-ltb, not-true, not-false}
-use Rattle.rule.specs.Sets.{bit, has, Members, insert, including, meetsBelow, meets, isEmpty, namesPast}
+use Rattle.rule.specs.Sets.{bit, has, Members, insert, including, those, meetsBelow, meets, isEmpty, namesPast}
 
 -- a bit is 0 or 1
 pub bit-cases : (x s : ℕ) → (bit x s ≡ 0) ⊎ (bit x s ≡ 1)
@@ -141,6 +141,11 @@ including-keeps x s t m =
 pub including-new : (x s : ℕ) → s < 64 → has (including x s) s ≡ true
 including-new x s h = rw (including-in x s h) (insert-new x s)
 
+-- a member is in the set already
+pub including-old : (x s : ℕ) → has x s ≡ true → including x s ≡ x
+unfolding insert
+including-old x s m = below-or s 64 (λ h. including-in x s h ∙ rw m) (λ h. sym (including-past x s h))
+
 pub including-from : (x s t : ℕ) → has (including x s) t ≡ true → (has x t ≡ true) ⊎ (s ≡ t)
 including-from x s t m = by (ℕ-discrete s t)
   where
@@ -160,6 +165,27 @@ including-lt k x s hx hs =
 -- and always one below 2 ^ 64 where it was one
 pub including-fits : (x s : ℕ) → x < 2 ^ 64 → including x s < 2 ^ 64
 including-fits x s h = below-or s 64 (λ l. including-lt 64 x s h l) (λ l. rw (← including-past x s l) h)
+
+-- the states of which a test holds
+module _ (p : ℕ → Bool) where
+  pub those-lt : (n : ℕ) → those p n < 2 ^ n
+  unfolding those
+  those-lt zero = omega arith
+  those-lt (suc n) =
+      let h : those p n < 2 ^ suc n = omega (arith, those-lt n, pow-suc 2 n) in
+      true-or (p n) (λ y. rw y (including-lt (suc n) (those p n) n h (omega arith))) (λ o. rw o h)
+
+  pub those-at : (n s : ℕ) → n ≤ 64 → s < n → has (those p n) s ≡ p s
+  unfolding those
+  those-at zero s few h = absurd (omega arith)
+  those-at (suc n) s few h =
+      below-or s n
+      (λ l. true-or (p n)
+      (λ y. rw (y, including-in (those p n) n (omega arith)) (insert-other (those p n) n s (λ e. omega arith) ∙ those-at n s (omega arith) l))
+      (λ o. rw o (those-at n s (omega arith) l)))
+      (λ l. let e : s ≡ n = omega arith in rw e (true-or (p n)
+      (λ y. rw y (including-new (those p n) n (omega arith)))
+      (λ o. rw o (has-past n (those p n) n (those-lt n) (omega arith)))))
 
 -- sets with the same members are equal
 
@@ -185,6 +211,10 @@ same-members k x y hx hy same =
 -- there is one set of 64 bits whose members are those of a test
 pub one-set : (p : ℕ → Bool) (x y : ℕ) → x < 2 ^ 64 → y < 2 ^ 64 → Members x p → Members y p → x ≡ y
 one-set p x y hx hy mx my = same-members 64 x y hx hy (λ s h. mx s h ∙ sym (my s h))
+
+-- a set of 64 bits whose members are those of a test
+pub those-is : (p : ℕ → Bool) (x : ℕ) → x < 2 ^ 64 → Members x p → x ≡ those p 64
+those-is p x h m = same-members 64 x (those p 64) h (those-lt p 64) (λ t l. m t l ∙ sym (those-at p 64 t (omega arith) l))
 
 -- common members
 
@@ -350,7 +380,18 @@ lowest-first k x i h = out-of-bit x i (first k x i h)
         (λ o. absurd (omega (arith, trailing-odd k x (omega arith))))
         (bit-cases x 0)
 
--- the members of two sets together, and the states outside one
+-- the members of two sets in common and together, and the states outside one
+pub has-and : (x y t : ℕ) → has (bitAnd x y) t ≡ has x t && has y t
+has-and x y t =
+    let e = bit-and x y t in
+    ⊎-elim
+    (λ z. rw (out-of-bit x t z) (out-of-bit (bitAnd x y) t (omega arith)))
+    (λ o. ⊎-elim
+    (λ z. rw (has-of-bit x t o, out-of-bit y t z) (out-of-bit (bitAnd x y) t (omega arith)))
+    (λ w. rw (has-of-bit x t o, has-of-bit y t w) (has-of-bit (bitAnd x y) t (omega arith)))
+    (bit-cases y t))
+    (bit-cases x t)
+
 pub has-or : (x y t : ℕ) → has (bitOr x y) t ≡ has x t || has y t
 has-or x y t =
     let e = bit-or x y t in

@@ -2,6 +2,7 @@ pub mod Arrays
 pub mod Sets
 pub mod Reach
 pub mod Ways
+pub mod Backward
 pub mod Range
 pub mod Drawing
 pub mod Acceptance

@@ -3,8 +3,6 @@
 use Prim.Native.Nat.{ℕ, _-_}
 use mathlib.Core.Bool.{cond}
 use mathlib.Core.List.{List, [], _∷_}
-use lib.ListN.{replicate}
-use Rattle.rule.specs.Arrays.{filled}
 use Rattle.rule.specs.Sets.{has, meets}
 use Rattle.rule.specs.Reach.{reachedWithin}
 use Rattle.rule.specs.Drawing.{Drawing, states, events, next}
@@ -56,10 +54,6 @@ reachOf d q = reachedWithin (d .table) (states d) (events d) q (states d - 1)
 -- the operation of a move into t
 unfoldable pub operationAt : Drawing → ℕ → Operation
 operationAt d t = smallestOf (d .pairs) (reachOf d t) t
-
--- the operation of a move into each state, in an array of 64; halt past the states
-abbrev pub operationsOf : Drawing → List Operation
-operationsOf d = filled (operationAt d) (replicate 64 Halt) (states d)
 
 -- the operation of the move from s at e
 abbrev pub operation : Drawing → ℕ → ℕ → Operation

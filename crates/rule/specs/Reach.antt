@@ -1,11 +1,10 @@
 -- Reach: over a table of so many states and events, row by state, then by event.
 -- Assumes nothing.
-use Prim.Native.Nat.{ℕ, zero, suc, _+_, _-_, _*_, _≤_, _<_}
+use Prim.Native.Nat.{ℕ, zero, suc, _+_, _*_, _≤_, _<_}
 use mathlib.Core.Path.{_≡_}
 use mathlib.Core.Bool.{cond}
 use mathlib.Core.List.{List, [], _∷_}
 use lib.ListN.{length, getD}
-use Rattle.rule.specs.Arrays.{filled}
 use Rattle.rule.specs.Sets.{has, including}
 
 -- the place of a cell: row by state, then by event, of so many events a row
@@ -64,7 +63,3 @@ spread table n k x (suc m) = movedSet table n k (spread table n k x m)
 -- the states reached from q in at most m moves
 unfoldable pub reachedWithin : List ℕ → ℕ → ℕ → ℕ → ℕ → ℕ
 reachedWithin table n k q m = spread table n k (including 0 q) m
-
--- an array with, at each state below i, the set that it reaches
-abbrev pub reachedSets : List ℕ → ℕ → ℕ → List ℕ → ℕ → List ℕ
-reachedSets table n k sets i = filled (λ s. reachedWithin table n k s (n - 1)) sets i

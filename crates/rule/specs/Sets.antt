@@ -25,6 +25,11 @@ insert x s = cond (has x s) x (x + 2 ^ s)
 unfoldable pub including : ℕ → ℕ → ℕ
 including x s = cond (ltb s 64) (insert x s) x
 
+-- the states below n of which p holds
+unfoldable pub those : (ℕ → Bool) → ℕ → ℕ
+those p zero = 0
+those p (suc n) = cond (p n) (including (those p n) n) (those p n)
+
 -- whether x and y have a member in common below i
 unfoldable pub meetsBelow : ℕ → ℕ → ℕ → Bool
 meetsBelow x y zero = false

@@ -16,29 +16,8 @@ use Rattle.rule.specs.Ways.{eventInto, nearerBelow}
 use Rattle.rule.proofs.ArrayLaws.{length-filled, filled-at}
 use Rattle.rule.proofs.BoolLaws.{clash}
 use Rattle.rule.proofs.SetLaws.{below-or, meets-iff, and-none, and-some}
-use Rattle.rule.proofs.LeastLaws.{least-is, least-none}
 use Rattle.rule.proofs.ShortestLaws.{below-same, row-meets, meets-row}
 use Rattle.why.specs.Steps.{rowsOf, stepsBelow, followed}
-
-module _ (table : List ℕ) (k x s : ℕ) where
-  -- the events below e do not lead from s into x
-  abbrev pub Missed : ℕ → Type 0
-  Missed e = (i : ℕ) → i < e → has x (target table k s i) ≡ false
-
-  pub missed-none : Missed 0
-  missed-none i h = absurd (omega arith)
-
-  pub missed-more : (e t : ℕ) (b : Bool) → Missed e → t ≡ target table k s e → b ≡ has x t → b ≡ false → Missed (e + 1)
-  missed-more e t b m it ib f i h =
-      below-or i e (λ l. m i l) (λ l. let q : i ≡ e = omega arith in rw (q, ← it, ← ib) f)
-
-  pub event-hit : (e t : ℕ) (b : Bool) → Missed e → e < k → t ≡ target table k s e → b ≡ has x t → b ≡ true → e ≡ eventInto (target table k) k x s
-  unfolding eventInto
-  event-hit e t b m h it ib f = sym (least-is (λ e. has x (target table k s e)) k e h (rw (← it, ← ib) f) m)
-
-  pub event-none : (e : ℕ) → k ≤ e → Missed e → k ≡ eventInto (target table k) k x s
-  unfolding eventInto
-  event-none e h m = sym (least-none (λ e. has x (target table k s e)) k (λ i l. m i (omega arith)))
 
 -- where every entry is below m, so is every next state
 pub moved-in : (table : List ℕ) (k m s e t : ℕ) → ((i : ℕ) → getD table i 0 < m) → t ≡ target table k s e → t < m

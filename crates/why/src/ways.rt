@@ -4,9 +4,10 @@ ghost use Prim.Native.Nat.{ℕ, _≤_, _<_};
 ghost use lib.ListN.{length, getD, replicate};
 ghost use Rattle.rule.specs.Putting.{PutPromise};
 ghost use Rattle.rule.specs.Reach.{target};
-ghost use Rattle.rule.specs.Ways.{eventInto, nearerBelow, distance, wayInto};
+ghost use Rattle.rule.specs.Ways.{nearerBelow, distance, wayInto};
 ghost use Rattle.rule.specs.declared.Verdict.the-variants.{Sound};
 ghost use Rattle.why.specs.Steps.{rowsOf, stepsBelow, followed};
+use reach::event_into;
 use reach::next;
 use reach::sets::contains;
 use reach::sets::insert;
@@ -26,18 +27,6 @@ fn fill_rows(table: &[u8], states: u8, events: u8, rows: &mut [u64])
     }
 }
 
-// The lowest event that leads from s into the set, or the number of events.
-fn event_into(table: &[u8], events: u8, set: u64, s: StateNo) -> u8
-    ensures { λ r. ⌜ r ≡ eventInto (target (now (table .entry)) events) events set (s .0) ⌝ }
-{
-    for e in 0..events {
-        if contains(set, next(table, events, s, EventNo(e))) {
-            return e;
-        }
-    }
-    events
-}
-
 // The set with the states from which one event leads into it; the lowest such event of each new one goes into `steps`.
 fn nearer(table: &[u8], states: u8, events: u8, rows: &[u64], set: u64, steps: &mut [u8]) -> u64
     requires { ⌜ (states ≤ length (now steps)) × (states ≤ 64) × (now rows ≡ rowsOf (now table) events (replicate 64 0) states) ⌝ }
@@ -50,7 +39,7 @@ fn nearer(table: &[u8], states: u8, events: u8, rows: &[u64], set: u64, steps: &
             let row = rows[s as usize];
             if set & row != 0 {
                 out = insert(out, StateNo(s));
-                steps[s as usize] = event_into(table, events, set, StateNo(s));
+                steps[s as usize] = event_into(table, events, StateNo(s), set);
             }
         }
     }

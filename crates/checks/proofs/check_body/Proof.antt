@@ -3,6 +3,7 @@
 use borrow.Author.Needs.{needs}
 use Rattle.checks.specs.Checked.{checkedOf}
 use Rattle.checks.proofs.CheckLaws.{chain}
+use Rattle.checks.proofs.LookLaws.{held-few, entries-closed}
 use Rattle.checks.proofs.check_body.Statement.{statement}
 use Rattle.checks.proofs.check_body.Tie as tie
 
@@ -38,5 +39,5 @@ check-body-spec =
     (λ c. search needs)
     (λ c. search needs)
     returns-3
-    (λ c κs. search needs)
+    (λ c κs. (search (needs, held-few), search (needs, entries-closed)))
     returns-4)

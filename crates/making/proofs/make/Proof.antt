@@ -1,6 +1,6 @@
 -- `make` meets its contract: a refusal of the file, or what putting the sheet of its drawing comes to. Assumes nothing.
 use Rattle.rulefile.proofs.PartsLaws.{table-order, table-inside}
-use Rattle.making.proofs.FoundLaws.{found-few, found-low, found-short, made-refused, made}
+use Rattle.making.proofs.FoundLaws.{found-well, found-low, found-short, made-refused, made}
 use borrow.Author.Needs.{needs}
 use Rattle.making.proofs.make.Statement.{statement}
 use Rattle.making.proofs.make.Tie as tie
@@ -18,7 +18,7 @@ part-put-end : tie.Need-part-put-end
 part-put-end c = search (needs, table-inside)
 
 put-requires : tie.Need-put-requires
-put-requires c κs = (search (needs, found-few), search (needs, found-low), search (needs, found-short))
+put-requires c κs = (search (needs, found-well), search (needs, found-low), search (needs, found-short))
 
 returns-2 : tie.Need-returns-2
 returns-2 c = search (needs, made)

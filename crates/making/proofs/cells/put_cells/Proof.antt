@@ -4,24 +4,18 @@ use mathlib.Core.Path.{_≡_, refl}
 use mathlib.Core.List.{map, _++_}
 use Prim.Native.Nat.{_≤_, _-_}
 use lib.ListN.{length, take, drop, length-set}
-use Rattle.making.proofs.CellLaws.{mark-fits, withMark, entry-fits, entry-in, cell-fits, cells-more, cells-all}
+use Rattle.making.proofs.CellLaws.{mark-fits, withMark, cell-fits, cells-more, cells-all}
 use Rattle.making.proofs.cells.put_cells.Statement.{statement}
 use Rattle.making.proofs.cells.put_cells.Tie as tie
 
 abbrev Inv-loop : tie.InvT-loop
-Inv-loop out₀ table operations i₀ out i = (i ≤ length table) × (length out ≡ length out₀) × (out ≡ map (withMark operations) (take i table) ++ drop i out₀)
+Inv-loop out₀ table marks i₀ out i = (i ≤ length table) × (length out ≡ length out₀) × (out ≡ map (withMark marks) (take i table) ++ drop i out₀)
 
 abbrev μ-loop : tie.MeasureT-loop
-μ-loop out₀ table operations i₀ out i = length table - i
+μ-loop out₀ table marks i₀ out i = length table - i
 
 loop-holds : tie.Need-loop-holds Inv-loop μ-loop
 loop-holds c = (search needs, refl, refl)
-
-cast-mark : tie.Need-cast-mark Inv-loop μ-loop
-cast-mark c = search (needs, entry-fits)
-
-array-copy-out-mark : tie.Need-array-copy-out-mark Inv-loop μ-loop
-array-copy-out-mark c = search (needs, entry-in)
 
 mul-out : tie.Need-mul-out Inv-loop μ-loop
 mul-out c = search (needs, mark-fits)
@@ -35,7 +29,7 @@ loop-again c = (search needs, search (needs, length-set), search (needs, cells-m
 returns : tie.Need-returns Inv-loop μ-loop
 returns c =
     let start = c .before .before .before .before in
-    cells-all (start .args .t3) (start .args .table .now) _ (start .args .out .now) (c .before .loop .i) (c .before .loop .inv .2) (start .pre .0)
+    cells-all (start .args .marks) (start .args .table .now) _ (start .args .out .now) (c .before .loop .i) (c .before .loop .inv .2) (start .pre .0)
     (search needs) (search needs)
 
 pub put-cells-spec : {M : Type 1} → statement M
@@ -46,8 +40,7 @@ put-cells-spec =
     μ-loop
     loop-holds
     (λ c. search needs)
-    cast-mark
-    array-copy-out-mark
+    (λ c κs. search needs)
     (λ c κs. search needs)
     mul-out
     add-out

@@ -7,18 +7,18 @@ use Rattle.rule.specs.Reach.{target}
 use Rattle.rulefile.specs.Layout.{flatUpTo}
 use Rattle.printed.specs.Placing.{Put}
 use Rattle.printed.specs.Printing.{cellOf, rowLines}
-use Rattle.printed.specs.Writers.{into}
+use Rattle.operations.specs.Marks.{operationIn}
 use Rattle.printed.proofs.LoopLaws.{flat-none, flat-more, flat-all}
 use Rattle.printed.proofs.PlacingLaws.{put-length}
 use Rattle.printed.proofs.lines.put_row.Statement.{statement}
 use Rattle.printed.proofs.lines.put_row.Tie as tie
 
 abbrev Inv-loop : tie.InvT-loop
-Inv-loop out₀ at s table events operations end₀ e₀ out end e =
-    (e ≤ events) × Put out₀ at (flatUpTo (cellOf (target table events) (into operations) (s .0)) e) end out
+Inv-loop out₀ at s table events marks end₀ e₀ out end e =
+    (e ≤ events) × Put out₀ at (flatUpTo (cellOf (target table events) (operationIn marks) (s .0)) e) end out
 
 abbrev μ-loop : tie.MeasureT-loop
-μ-loop out₀ at s table events operations end₀ e₀ out end e = events - e
+μ-loop out₀ at s table events marks end₀ e₀ out end e = events - e
 
 ruleset steps = (needs, flat-more, flat-all, put-length)
 

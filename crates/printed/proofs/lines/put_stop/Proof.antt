@@ -15,5 +15,5 @@ put-stop-spec =
     (tie.spec
     (λ c κs. search steps) (λ c. search steps) (λ c. search steps) (λ c κs. search steps) (λ c. search steps) (λ c. search steps) (λ c. search steps)
     (λ c. search steps)
-    (λ c. stop-not _ _ (c .before .before .at-target .ensures) (c .enum-told2 .given .1) refl (omega arith) (omega arith))
-    (λ c. stop-not _ _ (c .before .before .at-target .ensures) (c .enum-told3 .given .1) refl (omega arith) (omega arith)))
+    (λ c. stop-not _ _ (c .before .before .at .ensures) (c .enum-told2 .given .1) refl (omega arith) (omega arith))
+    (λ c. stop-not _ _ (c .before .before .at .ensures) (c .enum-told3 .given .1) refl (omega arith) (omega arith)))

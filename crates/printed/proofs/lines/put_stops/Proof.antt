@@ -12,10 +12,10 @@ use Rattle.printed.proofs.lines.put_stops.Statement.{statement}
 use Rattle.printed.proofs.lines.put_stops.Tie as tie
 
 abbrev Inv-loop : tie.InvT-loop
-Inv-loop out₀ at states operations end₀ q₀ out end q = (q ≤ states) × Put out₀ at (flatUpTo (stopAt (haltsInto operations)) q) end out
+Inv-loop out₀ at states marks end₀ q₀ out end q = (q ≤ states) × Put out₀ at (flatUpTo (stopAt (haltsInto marks)) q) end out
 
 abbrev μ-loop : tie.MeasureT-loop
-μ-loop out₀ at states operations end₀ q₀ out end q = states - q
+μ-loop out₀ at states marks end₀ q₀ out end q = states - q
 
 ruleset steps = (needs, flat-more, flat-all, put-length)
 
