@@ -18,6 +18,12 @@ static void put_accepted(struct sink *out, const struct loaded *loaded) {
         put_line(out, "%s%s", mark, word_for(rule->names.state, state));
         mark = " ";
     }
+    mark = "; remarks ";
+    for (size_t code = rule->codes; code < ALL_CODES; code++) {
+        if (rule->names.code[code].len == 0) continue;
+        put_line(out, "%s%s", mark, rule->names.code[code].text);
+        mark = " ";
+    }
     put_text(out, "\n");
 }
 

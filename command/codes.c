@@ -112,13 +112,13 @@ static bool is_space(uint8_t byte) { return byte == ' ' || (byte >= '\t' && byte
 /* The code that a word is, or -1. */
 static int code_in(const struct codes *in, const uint8_t *word, size_t len) {
     int number = number_in(word, len);
-    if (number < 0) return find_name(in->names->code, PACHALLU_EVENTS_MAX, word, len);
+    if (number < 0) return find_name(in->names->code, ALL_CODES, word, len);
     return number <= 255 ? number : -1;
 }
 
 static void tell_no_code(struct codes *in) {
     bool named = false;
-    for (size_t i = 0; i < PACHALLU_EVENTS_MAX; i++) named = named || in->names->code[i].len > 0;
+    for (size_t i = 0; i < ALL_CODES; i++) named = named || in->names->code[i].len > 0;
     end_progress(in);
     tell(in->file, line_at(in, in->word_at), "%s is no code: a number from 0 to 255%s is wanted. The run ends before it",
          in->word_len == WORD_MOST ? "a word of over 64 bytes" : quoted(in->word, in->word_len),

@@ -1,7 +1,7 @@
 /* drawing.c: a rule drawn in text (docs/FORMATS.md), read, with everything told that is wrong with it.
  *
  * The first walk over the statements takes what declares something (class, codes, rows, note); the second takes what uses
- * names (start, accept, moves), so that a state may be used above its row.
+ * names or the number of codes (remarks, start, accept, moves), so that a state may be used above its row.
  */
 #include "drawing.h"
 
@@ -19,7 +19,7 @@ struct reader {
     const struct token *start_word;
     const struct token *row[PACHALLU_STATES_MAX], *pair[PACHALLU_PAIRS_MAX]; /* the statement of each */
     bool code_drawn[PACHALLU_EVENTS_MAX];
-    size_t codes_line, state_count, pair_count;
+    size_t codes_line, state_count, pair_count, next_remark;
     bool too_many_codes, too_many_states;
 };
 
@@ -197,10 +197,10 @@ static void take_accept(struct reader *in, const struct token *token) {
 }
 
 static void take_declaration(struct reader *in, const struct token *token) {
-    if (token->kind == SPOILED) return; /* told already */
+    if (token->kind == SPOILED || says(token, "remarks")) return; /* told already; taken later */
     if (token->kind != WORD)
-        complain(in->complaints, token->line, "a line begins with a state or with class, codes, start, accept or note, not with %s",
-                 seen(token));
+        complain(in->complaints, token->line,
+                 "a line begins with a state or with class, codes, remarks, start, accept or note, not with %s", seen(token));
     else if (says(token, "class"))
         take_class(in, token);
     else if (says(token, "codes"))
@@ -215,11 +215,50 @@ static void take_declaration(struct reader *in, const struct token *token) {
         declare_state(in, token);
     else
         complain(in->complaints, token->line,
-                 "%s begins no line of a drawing: those are STATE CODE -> STATE, .. and class, codes, start, accept and note",
+                 "%s begins no line of a drawing: those are STATE CODE -> STATE, .. and class, codes, remarks, start, accept and "
+                 "note",
                  seen(token));
 }
 
-/* ---- what uses names */
+/* ---- what uses names, or the number of codes */
+
+/* Names a code that the rule ignores. */
+static void declare_remark(struct reader *in, size_t number, const struct token *name, size_t line) {
+    struct rule *rule = &in->drawing->rule;
+    const char *fault = not_a_name(name->text, name->len);
+    if (number < rule->codes)
+        complain(in->complaints, line, "code %zu is one of the rule's own; a remark is a code from %zu to 255", number,
+                 rule->codes);
+    else if (number >= ALL_CODES)
+        complain(in->complaints, line, "there is no room for remark %zu: codes and remarks are numbered 0 to 255", number);
+    else if (rule->names.code[number].len > 0)
+        complain(in->complaints, line, "remark %zu is given twice", number);
+    else if (fault)
+        complain(in->complaints, line, "%s %s", seen(name), fault);
+    else if (find_name(rule->names.code, ALL_CODES, name->text, name->len) >= 0)
+        complain(in->complaints, line, "the name %s is given to two codes", seen(name));
+    else
+        rule->names.code[number] = name_of(name->text, name->len);
+    if (number >= in->next_remark && number < ALL_CODES) in->next_remark = number + 1;
+}
+
+/* NAME or NUMBER=NAME; a name alone has the number after the highest so far, of codes and remarks. */
+static void take_remarks(struct reader *in, const struct token *token) {
+    size_t line = token->line;
+    if (!says(token, "remarks")) return;
+    token++;
+    if (token->kind == END) complain(in->complaints, line, "remarks is followed by no remark");
+    while (token->kind == WORD) {
+        int number = number_of(token);
+        bool numbered = token[1].kind == EQUALS;
+        if (numbered ? number < 0 || token[2].kind != WORD : number >= 0) break;
+        declare_remark(in, numbered ? (size_t)number : in->next_remark, numbered ? token + 2 : token, line);
+        token += numbered ? 3 : 1;
+    }
+    if (token->kind != END && token->kind != SPOILED)
+        complain(in->complaints, line, "NUMBER=NAME or NAME with spaces between them are wanted after remarks; %s does not fit",
+                 seen(token));
+}
 
 /* The state that a word names, or -1, which it tells. */
 static int state_named(struct reader *in, const struct token *token) {
@@ -254,9 +293,12 @@ static int code_named(struct reader *in, const struct token *token, const struct
     struct drawing *d = in->drawing;
     int number = number_of(token);
     if (number < 0) {
-        int found = find_name(d->rule.names.code, d->rule.codes, token->text, token->len);
-        if (found >= 0 || in->too_many_codes) return found;
-        if (before->line != token->line)
+        int found = find_name(d->rule.names.code, ALL_CODES, token->text, token->len);
+        bool remark = found >= (int)d->rule.codes;
+        if (!remark && (found >= 0 || in->too_many_codes)) return found;
+        if (remark)
+            complain(in->complaints, token->line, "%s is a remark: the rule ignores it, and no move is drawn for it", seen(token));
+        else if (before->line != token->line)
             complain(in->complaints, token->line,
                      "%s is none of the codes (the comma at the end of line %zu joins this line to it)", seen(token), before->line);
         else
@@ -432,6 +474,8 @@ void drawing_read(const uint8_t *text, size_t len, struct drawing *d) {
     for_each_statement(&in, &tokens, take_declaration);
     d->rule.states = in.state_count;
     d->rule.pairs = in.pair_count < PACHALLU_PAIRS_MAX ? in.pair_count : PACHALLU_PAIRS_MAX;
+    in.next_remark = d->rule.codes;
+    for_each_statement(&in, &tokens, take_remarks);
     resolve_start(&in);
     for (size_t pair = 0; pair < d->rule.pairs; pair++) resolve_pair(&in, pair);
     for (size_t state = 0; state < in.state_count; state++) resolve_row(&in, state);

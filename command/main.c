@@ -58,8 +58,8 @@ enum { SUBCOMMANDS = sizeof subcommands / sizeof subcommands[0], OPTIONS = sizeo
 static const char more[] =
     "\nIn place of RULE: --book OFFICE [--job JOB] --rule NUMBER [--age AGE], a rule out of rule books. For JOB: --no-job.\n"
     "A file called - is standard input or output. `pachallu COMMAND --help` tells the options of one command, `man pachallu` all.\n"
-    "Exit status: 0 done; 1 the answer is no (a rule, drawing or book is refused; a book has no such rule; codes were halted,\n"
-    "held or not taken); 2 bad use, or something could not be read or written.\n";
+    "Exit status: 0 done; 1 the answer is no (a rule, drawing or book is refused; a book has no such rule; codes were halted\n"
+    "or held); 2 bad use, or something could not be read or written.\n";
 
 static void put_usage_line(struct sink *out, const struct subcommand *sub) {
     put_line(out, "  pachallu %-9s %-33s  %s\n", sub->name, sub->usage, sub->help);

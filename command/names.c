@@ -1,4 +1,4 @@
-/* names.c: names of states and codes, and how they stand in a rule's note (docs/FORMATS.md). */
+/* names.c: names of states, codes and remarks, and how they stand in a rule's note (docs/FORMATS.md). */
 #include "names.h"
 
 #include <stdio.h>
@@ -29,9 +29,9 @@ int number_in(const uint8_t *text, size_t len) {
     return number;
 }
 
-/* Words of the notation, and two that are kept for what it will say later. */
+/* Words of the notation, and one that is kept for what it will say later. */
 static bool is_reserved(const uint8_t *text, size_t len) {
-    static const char *const words[] = {"class", "codes", "start", "accept", "note", "else", "R", "P", "mode", "remarks"};
+    static const char *const words[] = {"class", "codes", "start", "accept", "note", "else", "R", "P", "remarks", "mode"};
     for (size_t i = 0; i < sizeof words / sizeof words[0]; i++)
         if (len == strlen(words[i]) && memcmp(text, words[i], len) == 0) return true;
     return false;
@@ -113,11 +113,11 @@ static bool any_name(const struct name *names, size_t count) {
     return false;
 }
 
-size_t names_to_note(const struct names *names, size_t states, size_t codes, uint8_t *bytes) {
+size_t names_to_note(const struct names *names, size_t states, uint8_t *bytes) {
     struct note note = {bytes, 0};
-    if (!any_name(names->state, states) && !any_name(names->code, codes)) return 0;
+    if (!any_name(names->state, states) && !any_name(names->code, ALL_CODES)) return 0;
     add(&note, names_mark, sizeof names_mark - 1);
-    add_list(&note, "codes", names->code, codes);
+    add_list(&note, "codes", names->code, ALL_CODES);
     add_list(&note, "states", names->state, states);
     return note.used;
 }
@@ -148,17 +148,18 @@ static size_t take_list(const uint8_t *bytes, size_t len, const char *word, stru
     return at < len && bytes[at] == '\n' ? at + 1 : 0;
 }
 
-size_t names_in_note(const uint8_t *note, size_t len, size_t states, size_t codes, struct names *names) {
+size_t names_in_note(const uint8_t *note, size_t len, size_t states, struct names *names) {
     uint8_t again[NOTE_MOST];
     size_t at = sizeof names_mark - 1, part = 0;
     *names = (struct names){0};
-    if (len > at && memcmp(note, names_mark, at) == 0 && (part = take_list(note + at, len - at, "codes", names->code, codes)) > 0) {
+    if (len > at && memcmp(note, names_mark, at) == 0) part = take_list(note + at, len - at, "codes", names->code, ALL_CODES);
+    if (part > 0) {
         at += part;
         part = take_list(note + at, len - at, "states", names->state, states);
         at += part;
     }
     /* written in any other way than ours, it would not come back byte for byte */
-    if (part > 0 && names_to_note(names, states, codes, again) == at && memcmp(again, note, at) == 0) return at;
+    if (part > 0 && names_to_note(names, states, again) == at && memcmp(again, note, at) == 0) return at;
     *names = (struct names){0};
     return 0;
 }

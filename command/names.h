@@ -1,11 +1,11 @@
-/* names.h: names of states and codes, and how they stand in a rule's note (docs/FORMATS.md). */
+/* names.h: names of states, codes and remarks, and how they stand in a rule's note (docs/FORMATS.md). */
 #ifndef NAMES_H
 #define NAMES_H
 
 #include <pachallu.h>
 #include <stdbool.h>
 
-enum { NAME_MOST = 64, NOTE_MOST = 1024 };
+enum { NAME_MOST = 64, NOTE_MOST = 1024, ALL_CODES = 256 };
 
 /* A name; one of length 0 is none: the state or code is shown by its number. */
 struct name {
@@ -14,7 +14,7 @@ struct name {
 };
 
 struct names {
-    struct name code[PACHALLU_EVENTS_MAX];
+    struct name code[ALL_CODES]; /* those of the rule, and behind them remarks: codes that it ignores */
     struct name state[PACHALLU_STATES_MAX];
 };
 
@@ -36,8 +36,8 @@ const char *told_code(const struct names *names, size_t number);
 
 /* Puts the names at the front of a note; answers how many bytes they take, and writes nothing where that is over NOTE_MOST.
  * No bytes where there is no name at all. */
-size_t names_to_note(const struct names *names, size_t states, size_t codes, uint8_t *note);
+size_t names_to_note(const struct names *names, size_t states, uint8_t *note);
 /* Takes the names out of a note; answers how many bytes they take, 0 where the note does not begin with names. */
-size_t names_in_note(const uint8_t *note, size_t len, size_t states, size_t codes, struct names *names);
+size_t names_in_note(const uint8_t *note, size_t len, size_t states, struct names *names);
 
 #endif

@@ -34,7 +34,7 @@ static uint64_t number_at(const uint8_t *bytes, size_t len) {
 
 size_t rule_to_file(const struct rule *rule, bool with_names, uint8_t bytes[PACHALLU_RULE_MAX], size_t *note_len) {
     size_t cells = rule->states * rule->codes, pairs = PAIR * rule->pairs;
-    size_t at = with_names ? names_to_note(&rule->names, rule->states, rule->codes, bytes) : 0;
+    size_t at = with_names ? names_to_note(&rule->names, rule->states, bytes) : 0;
     *note_len = at + rule->note_len;
     if (*note_len > NOTE_MOST) return 0;
     memcpy(bytes + at, rule->note, rule->note_len);
@@ -77,7 +77,7 @@ static void take_apart(const uint8_t *bytes, size_t len, struct rule *rule) {
         rule->r[i] = number_at(pairs + PAIR * i, 8);
         rule->p[i] = number_at(pairs + PAIR * i + 8, 8);
     }
-    size_t note = (size_t)(table - bytes), named = names_in_note(bytes, note, rule->states, rule->codes, &rule->names);
+    size_t note = (size_t)(table - bytes), named = names_in_note(bytes, note, rule->states, &rule->names);
     rule->note_len = note - named;
     memcpy(rule->note, bytes + named, rule->note_len);
 }

@@ -7,15 +7,11 @@
 #include "codes.h"
 #include "command.h"
 #include "why.h"
-#include "words.h"
 
 /* The most codes that are held, so that an endless book ends; the released codes that -t lists again at the end; the codes of a way
  * that it tells of each held one. */
 #define HELD_MOST ((size_t)1 << 28)
-enum { LISTED = 4096, WAY_TOLD = 8, ALL_CODES = 256 };
-
-/* The refusal of a code that the rule does not have. A block gets no other one: the sheet was made here, and there is room. */
-enum { NOT_OF_THE_RULE = 13 };
+enum { LISTED = 4096, WAY_TOLD = 8 };
 
 /* A code as it is printed in a list, a space before it. */
 struct word {
@@ -37,9 +33,9 @@ struct course {
     uint8_t *memory, *output;
     /* what has come of it */
     size_t released, halted_at, halted_line, halted_state;
-    size_t not_taken, not_taken_at, not_taken_line;
-    uint8_t not_taken_code;
-    uint8_t fault; /* a refusal that should never be; 0: none */
+    size_t ignored, ignored_at, ignored_line;
+    uint8_t ignored_code;
+    uint8_t fault; /* a refusal that should never be: the sheet was made here, and there is room; 0: none */
     uint8_t listed[LISTED];
 };
 
@@ -51,17 +47,12 @@ static size_t width(const struct word *word) {
 }
 
 static void name_codes(struct course *c) {
-    const struct rule *rule = &c->loaded->rule;
     for (size_t code = 0; code < ALL_CODES; code++) {
         struct word *word = &c->words[code];
-        if (code < rule->codes)
-            snprintf(word->text, sizeof word->text, " %s", word_for(rule->names.code, code));
-        else
-            snprintf(word->text, sizeof word->text, " %zu", code);
+        snprintf(word->text, sizeof word->text, " %s", word_for(c->loaded->rule.names.code, code));
         word->len = strlen(word->text);
-        if (code < rule->codes && width(word) > c->widest) c->widest = width(word);
+        if (width(word) > c->widest) c->widest = width(word);
     }
-    if (c->widest < 3) c->widest = 3;
 }
 
 static void put_code(struct course *c, uint8_t code) { put_bytes(&c->out, c->words[code].text, c->words[code].len); }
@@ -99,7 +90,9 @@ static void tell_halt(struct course *c, const pachallu_evening *answer) {
 static void tell_answer(struct course *c, uint8_t code, const pachallu_evening *answer) {
     tell_code(c, code);
     if (answer->refusal)
-        put_line(&c->out, "not taken: %s\n", not_taken_words(answer->refusal));
+        put_line(&c->out, "not taken: %s\n", pachallu_refusal_text(answer->refusal));
+    else if (answer->ignored > 0)
+        put_text(&c->out, "ignored\n");
     else if (answer->released > 0)
         put_list(c, "dump   out:", c->output, answer->released);
     else if (answer->held > c->held)
@@ -136,45 +129,43 @@ static void release(struct course *c, size_t count) {
     c->released += count;
 }
 
-/* The code at `place` of the block is the first to be halted; the run stands where it stood before the one at `from`. */
-static void note_halt(struct course *c, size_t from, size_t place) {
+/* The first code that is halted: of the block, behind so many that were taken. The run stands where it stood before the block. */
+static void note_halt(struct course *c, size_t taken) {
+    const struct rule *rule = &c->loaded->rule;
+    size_t place = 0;
+    c->halted_state = c->state;
+    for (;; place++) {
+        if (c->book.block[place] >= rule->codes) continue;
+        c->halted_state = move_of(rule, c->halted_state, c->book.block[place]);
+        if (taken-- == 0) break;
+    }
     c->halted_at = number_of_code(&c->book, place);
     c->halted_line = line_of_code(&c->book, place);
     keep_line(&c->book, place);
-    c->halted_state = c->state;
-    for (; from <= place; from++) c->halted_state = move_of(&c->loaded->rule, c->halted_state, c->book.block[from]);
 }
 
-static void note_not_taken(struct course *c, size_t place) {
-    if (c->not_taken++ > 0) return;
-    c->not_taken_at = number_of_code(&c->book, place);
-    c->not_taken_line = line_of_code(&c->book, place);
-    c->not_taken_code = c->book.block[place];
-}
-
-/* Offers the block from `place` on; answers how many of its codes are done with. */
-static size_t offer(struct course *c, size_t place) {
-    const uint8_t *log = c->book.block + place;
-    pachallu_evening answer = pachallu_events(c->loaded->sheet, c->loaded->made.written, c->state, c->held, log,
-                                              c->book.gathered - place, c->memory, c->room, c->output, c->room);
-    /* what is taken is released, held or halted; and behind the first halt there is nothing else */
-    size_t halted = c->held + answer.taken - answer.released - answer.held;
-    if (c->tell_each) tell_answer(c, log[0], &answer);
-    release(c, answer.released);
-    if (halted > 0 && !c->halted_at) note_halt(c, place, place + answer.taken - halted);
-    c->state = answer.state;
-    c->held = answer.held;
-    if (!answer.refusal) return answer.taken;
-    if (answer.refusal == NOT_OF_THE_RULE)
-        note_not_taken(c, place + answer.taken); /* it has changed nothing; the next one is offered */
-    else
-        c->fault = answer.refusal;
-    return answer.taken + 1;
+static void note_ignored(struct course *c) {
+    size_t place = 0;
+    while (c->book.block[place] < c->loaded->rule.codes) place++;
+    c->ignored_at = number_of_code(&c->book, place);
+    c->ignored_line = line_of_code(&c->book, place);
+    c->ignored_code = c->book.block[place];
 }
 
 static void take_block(struct course *c) {
     make_room(c);
-    for (size_t done = 0; done < c->book.gathered && !c->fault;) done += offer(c, done);
+    pachallu_evening answer = pachallu_events(c->loaded->sheet, c->loaded->made.written, c->state, c->held, c->book.block,
+                                              c->book.gathered, c->memory, c->room, c->output, c->room);
+    /* what is taken is released, held or halted; and from the first halt on all that is taken is halted */
+    size_t halted = c->held + answer.taken - answer.released - answer.held;
+    if (c->tell_each) tell_answer(c, c->book.block[0], &answer);
+    release(c, answer.released);
+    if (halted > 0 && !c->halted_at) note_halt(c, answer.taken - halted);
+    if (answer.ignored > 0 && c->ignored == 0) note_ignored(c);
+    c->ignored += answer.ignored;
+    c->state = answer.state;
+    c->held = answer.held;
+    c->fault = answer.refusal;
     if (c->fault)
         tell(NULL, 0, "run: a fault of this program: refusal %u: %s. The run ends here", (unsigned)c->fault,
              pachallu_refusal_text(c->fault));
@@ -214,10 +205,9 @@ static void put_report(struct course *c) {
     else
         put_text(&c->out, "halted    nowhere\n");
     put_why(c);
-    if (c->not_taken)
-        put_line(&c->out, "not taken %zu code%s, the first at code %zu, line %zu of the book:%s: %s\n", c->not_taken,
-                 c->not_taken == 1 ? "" : "s", c->not_taken_at, c->not_taken_line, c->words[c->not_taken_code].text,
-                 not_taken_words(NOT_OF_THE_RULE));
+    if (c->ignored)
+        put_line(&c->out, "ignored   %zu code%s, the first at code %zu, line %zu of the book:%s\n", c->ignored,
+                 c->ignored == 1 ? "" : "s", c->ignored_at, c->ignored_line, c->words[c->ignored_code].text);
 }
 
 static enum status run_book(struct course *c) {
@@ -228,7 +218,7 @@ static enum status run_book(struct course *c) {
     if (came == NOT_READ && c->book.count == 0) return FAILED;
     put_report(c);
     if (most == 0 || c->fault || came == NOT_READ) return FAILED;
-    return came == NO_CODE || c->halted_at || c->held || c->not_taken ? ANSWER_NO : DONE;
+    return came == NO_CODE || c->halted_at || c->held ? ANSWER_NO : DONE;
 }
 
 enum status command_run(const struct arguments *arguments) {

@@ -50,23 +50,40 @@ static bool code_item(const struct rule *rule, size_t code, size_t next, char *i
     return true;
 }
 
+/* An item of a line "codes" or "remarks"; a new such line begins where it gets wide. */
+static void put_item(struct layout *layout, const char *word, const char *item) {
+    if (layout->column + 1 + width(item) > WIDEST && layout->column > strlen(word) + 1) {
+        put_text(layout->out, "\n");
+        layout->column = 0;
+    }
+    if (layout->column == 0)
+        put_head(layout, word, 8);
+    else
+        put(layout, " ");
+    put(layout, item);
+}
+
 static void put_codes(struct sink *out, const struct rule *rule) {
     struct layout layout = {out, 0};
     char item[NAME_MOST + 24];
-    put_head(&layout, "codes", 8);
-    for (size_t code = 0, next = 0, count = 0; code < rule->codes; code++) {
+    for (size_t code = 0, next = 0; code < rule->codes; code++) {
         if (!code_item(rule, code, next, item, sizeof item)) continue;
         next = code + 1;
-        if (count++ > 0 && layout.column + 1 + width(item) > WIDEST) {
-            put_text(out, "\n");
-            layout.column = 0;
-            put_head(&layout, "codes", 8);
-        } else if (count > 1) {
-            put(&layout, " ");
-        }
-        put(&layout, item);
+        put_item(&layout, "codes", item);
     }
     put_text(out, "\n");
+}
+
+/* Each with its number, so that it stays what it is where a code is put in before it. */
+static void put_remarks(struct sink *out, const struct rule *rule) {
+    struct layout layout = {out, 0};
+    char item[NAME_MOST + 24];
+    for (size_t code = rule->codes; code < ALL_CODES; code++) {
+        if (rule->names.code[code].len == 0) continue;
+        snprintf(item, sizeof item, "%zu=%s", code, rule->names.code[code].text);
+        put_item(&layout, "remarks", item);
+    }
+    if (layout.column > 0) put_text(out, "\n");
 }
 
 /* The state to which most codes of a row move, if that is more than one of them: its else. Else the number of states. */
@@ -161,6 +178,7 @@ void put_drawing(struct sink *out, const struct rule *rule) {
     column = column > WIDEST_HEAD ? WIDEST_HEAD : column + 2;
     put_line(out, "class   %s\n", class_words[rule->class]);
     put_codes(out, rule);
+    put_remarks(out, rule);
     put_line(out, "start   %s\n\n", word_for(rule->names.state, rule->start));
     for (size_t state = 0; state < rule->states; state++) put_row(out, rule, state, column);
     put_text(out, "\n");

@@ -79,21 +79,21 @@ void put_reason(struct sink *out, const struct rule *rule, const struct reason *
 
 /* ---- the command */
 
-/* The number that a word writes or names; 255, which no state and no code has, where it does neither. */
-static uint8_t called(const char *word, const struct name *names, size_t count) {
+/* The number up to 255 that a word writes or names, or -1. */
+static int called(const char *word, const struct name *names, size_t count) {
     const uint8_t *text = (const uint8_t *)word;
     int number = number_in(text, strlen(word));
-    if (number < 0) number = find_name(names, count, text, strlen(word));
-    return number >= 0 && number < 255 ? (uint8_t)number : 255;
+    if (number < 0) return find_name(names, count, text, strlen(word));
+    return number < ALL_CODES ? number : -1;
 }
 
-/* The rule has no such state or code. */
-static enum status tell_none(const struct loaded *loaded, const char *refused, const char *word, const struct name *names,
+/* The rule has no such state or code; `what` goes on after the word. */
+static enum status tell_none(const struct loaded *loaded, const char *word, const char *what, const struct name *names,
                              size_t count) {
     struct sink those = sink_to(-1);
     put_set(&those, names, count, ~(uint64_t)0, NAMES_SHOWN);
-    tell(loaded->file, 0, "%s%s of this rule is called %s; it has%.*s", loaded->part, refused, quoted(word, strlen(word)),
-         (int)those.used, (const char *)those.bytes);
+    tell(loaded->file, 0, "%srefused %s: %s is %s; it has%.*s", loaded->part, names == loaded->rule.names.state ? "12" : "13",
+         quoted(word, strlen(word)), what, (int)those.used, (const char *)those.bytes);
     sink_free(&those);
     return ANSWER_NO;
 }
@@ -105,9 +105,14 @@ enum status command_why(const struct arguments *arguments) {
     struct reason reason;
     enum status status = load_accepted(&arguments->rule, &loaded);
     if (status != DONE) return status;
-    ask(&loaded, called(arguments->state, states, rule->states), called(arguments->code, codes, rule->codes), &reason);
-    if (reason.told.refusal == 12) return tell_none(&loaded, "refused 12: no state", arguments->state, states, rule->states);
-    if (reason.told.refusal == 13) return tell_none(&loaded, "refused 13: no code", arguments->code, codes, rule->codes);
+    int state = called(arguments->state, states, rule->states), code = called(arguments->code, codes, ALL_CODES);
+    /* 255 is no state and no code of any rule */
+    ask(&loaded, state < 0 ? 255 : (uint8_t)state, code < 0 ? 255 : (uint8_t)code, &reason);
+    if (reason.told.refusal == 12) return tell_none(&loaded, arguments->state, "no state of this rule", states, rule->states);
+    if (reason.told.refusal == 13)
+        return tell_none(&loaded, arguments->code,
+                         code < 0 ? "no code of this rule" : "no code of this rule, but a remark, which a run ignores", codes,
+                         rule->codes);
     struct sink out = sink_to(STDOUT_FILENO);
     put_reason(&out, rule, &reason);
     return end_output(&out, DONE);

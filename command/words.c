@@ -196,7 +196,3 @@ const char *not_added_words(uint8_t refusal) {
     return refusal == 26 ? "refused 26: it has 1024 rules, the most that a rule book has: begin another one with pachallu book new"
                          : pachallu_refusal_text(refusal);
 }
-
-const char *not_taken_words(uint8_t refusal) {
-    return refusal == 13 ? "it is not one of the rule's codes" : pachallu_refusal_text(refusal);
-}

@@ -17,7 +17,4 @@ void not_found_words(const struct rulebook *job, const struct rulebook *office, 
 /* Why a book takes no further rule, the same way. */
 const char *not_added_words(uint8_t refusal);
 
-/* Why a code was not taken, the same way. */
-const char *not_taken_words(uint8_t refusal);
-
 #endif

@@ -37,6 +37,7 @@ int main(int count, char **words) {
         for (size_t i = 0; i < answer.released; i++) printf("%u goes in\n", (unsigned)output[i]);
         if (answer.operation == PACHALLU_STORE) printf("%u is held\n", code);
         if (answer.operation == PACHALLU_HALT) printf("%u comes too late: the job is halted\n", code);
+        if (answer.operation == PACHALLU_IGNORE) printf("%u is a remark\n", code);
         state = answer.state;
         held = answer.held;
     }

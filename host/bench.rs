@@ -48,6 +48,7 @@ fn unknown(slice: &[u8]) -> &[u8] {
     }
 }
 
+#[derive(Clone, Copy)]
 struct Step {
     state: u8,
     held: usize,
@@ -104,7 +105,7 @@ impl Bench {
         assert!(library == plain && memory == m2 && output == o2, "{}: {:?} and {:?}", case, library, plain);
         let singly = single_calls(sheet, log, &mut m2, &mut o2);
         assert!(library == singly && memory == m2 && output == o2, "{}: {:?} and {:?}", case, library, singly);
-        assert!(library.refusal == 0 && library.taken == log.len());
+        assert!(library.refusal == 0 && library.taken + library.ignored == log.len());
         let turns = [(); 3];
         self.drive(case, "loop", &turns, |_| keep(&(unknown(sheet), unknown(log))));
         self.drive(case, "library", &turns, |_| keep(&library::events(unknown(sheet), 0, 0, unknown(log), &mut memory, &mut output)));
@@ -167,14 +168,15 @@ impl Bench {
 /// The library's single calls, each given the unwritten rest of the output.
 #[inline(never)]
 fn single_calls(sheet: &[u8], log: &[u8], memory: &mut [u8], output: &mut [u8]) -> Evening {
-    let (mut state, mut held, mut released) = (0, 0, 0);
+    let (mut state, mut held, mut released, mut ignored) = (0, 0, 0, 0);
     for &event in log {
         let a = library::event(sheet, state, held, event, memory, &mut output[released..]);
         state = a.state;
         held = a.held;
         released += a.released;
+        ignored += (a.operation == 3) as usize;
     }
-    Evening { refusal: 0, a: 0, b: 0, state, held, taken: log.len(), released }
+    Evening { refusal: 0, a: 0, b: 0, state, held, taken: log.len() - ignored, released, ignored }
 }
 
 // ---------------------------------------------------------------------------------------------- the cases
@@ -214,12 +216,20 @@ fn days(sheet: &[u8], steps: usize) -> Vec<Step> {
         };
         let event = if dice.one_in(40) { dice.below(3) as u8 } else { right };
         list.push(Step { state: run.state, held: run.held, event });
-        run = monitor::event(sheet, run, event, &mut memory, &mut output).map(|t| t.run).unwrap_or(run);
+        if let Ok(monitor::Answer::Taken(taken)) = monitor::event(sheet, run, event, &mut memory, &mut output) {
+            run = taken.run;
+        }
         if run.state == 2 && dice.one_in(3) {
             run = Run { state: 0, held: 0 };
         }
     }
     list
+}
+
+/// The same days with a remark before every event: any code that is not the rule's.
+fn with_remarks(days: Vec<Step>) -> Vec<Step> {
+    let mut dice = Dice::new(4, 0);
+    days.into_iter().flat_map(|step| [Step { event: 3 + dice.below(253) as u8, ..step }, step]).collect()
 }
 
 fn main() {
@@ -232,6 +242,7 @@ fn main() {
     bench.events("one event, all store", &waiting, &steps(&|i| (0, i % 64, 0)));
     bench.events("one event, halting", &setups, &steps(&|i| (2, i % 3, (i % 3) as u8)));
     bench.events("one event, days of a crew", &setups, &days(&setups, 4096));
+    bench.events("one event, half remarks", &setups, &with_remarks(days(&setups, 2048)));
     let (job, office) = (full_book(1), full_book(150));
     bench.finding("a lookup, newest of the job's book", &job, &office, 1, 0);
     bench.finding("a lookup, oldest of the job's book", &job, &office, 1, 1);
@@ -243,6 +254,8 @@ fn main() {
     bench.evening("4,096 events, all store", &waiting, &[0; 4096]);
     bench.evening("4,096 events, mostly after a halt", &setups, &day);
     bench.evening("4,096 events, an evening of a crew", &setups, &quiet);
+    let remarked: Vec<u8> = quiet[..2048].iter().enumerate().flat_map(|(i, &e)| [3 + (i * 7 % 253) as u8, e]).collect();
+    bench.evening("4,096 events, half remarks", &setups, &remarked);
     for (name, rule) in [("random", by_chance()), ("chain", chain()), ("self-loops", self_loops()), ("zigzag", zigzag())] {
         bench.making(&format!("reading, {}", name), &rule, 0);
         bench.making(&format!("making a sheet, {}", name), &rule, 2054);

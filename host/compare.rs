@@ -7,8 +7,8 @@
 //! be equal; each history on a made sheet is judged by the oracle; what the program `table` prints is compared where
 //! the environment variable PACHALLU_TABLE holds the shell words that start it. An evening of events in one call is
 //! compared with the second monitor and with the library's own single calls. The run fails, too, where one of the
-//! refusals 1 to 9, 11 to 18 and 26, or, of evenings, 19 and 11 to 16, or, of reasons, 1 to 9, 12, 13 and 16, was met
-//! fewer than 20 times.
+//! refusals 1 to 9, 11, 12, 14 to 18 and 26, or, of evenings, 19, 11, 12 and 14 to 16, or, of reasons, 1 to 9, 12, 13
+//! and 16, was met fewer than 20 times.
 
 mod books;
 mod dice;
@@ -29,6 +29,8 @@ use std::process::{exit, Command, Stdio};
 /// Every empty buffer is lent as NULL (host/library.rs).
 pub const NULL_FOR_EMPTY: bool = true;
 
+/// The operation of an event that is ignored.
+const IGNORED: u8 = 3;
 /// How often each refusal must be met at least.
 const ENOUGH: usize = 20;
 /// How many files of one kind (a class, or a refusal number) are printed by `table`: starting it takes time.
@@ -51,9 +53,11 @@ fn expected_start(answer: Result<Run, Refusal>) -> Start {
     }
 }
 
-fn expected_answer(given: Run, answer: Result<monitor::Taken, Refusal>) -> Answer {
+fn expected_answer(given: Run, answer: Result<monitor::Answer, Refusal>) -> Answer {
+    let nothing = Answer { refusal: 0, a: 0, b: 0, operation: 0, state: given.state, held: given.held, released: 0 };
     match answer {
-        Ok(t) => Answer {
+        Ok(monitor::Answer::Ignored) => Answer { operation: IGNORED, ..nothing },
+        Ok(monitor::Answer::Taken(t)) => Answer {
             refusal: 0,
             a: 0,
             b: 0,
@@ -62,13 +66,14 @@ fn expected_answer(given: Run, answer: Result<monitor::Taken, Refusal>) -> Answe
             held: t.run.held,
             released: t.released,
         },
-        Err(r) => Answer { refusal: r.no, a: r.a, b: r.b, operation: 0, state: given.state, held: given.held, released: 0 },
+        Err(r) => Answer { refusal: r.no, a: r.a, b: r.b, ..nothing },
     }
 }
 
 fn expected_evening(e: monitor::Evening) -> Evening {
     let r = e.refusal.unwrap_or(Refusal { no: 0, a: 0, b: 0 });
-    Evening { refusal: r.no, a: r.a, b: r.b, state: e.run.state, held: e.run.held, taken: e.taken, released: e.released }
+    let Run { state, held } = e.run;
+    Evening { refusal: r.no, a: r.a, b: r.b, state, held, taken: e.taken, released: e.released, ignored: e.ignored }
 }
 
 // ---------------------------------------------------------------------------------------------- telling a difference
@@ -129,13 +134,21 @@ struct Counts {
     damaged_but_sound: usize,
     made: [usize; 17],
     events: usize,
-    taken: [usize; 3],
+    /// Events by their operation, the ignored ones last; those ignored with events held and those after a halt; those refused 11 and 12.
+    taken: [usize; 4],
+    ignored_held: usize,
+    ignored_halted: usize,
+    remarks_refused: [usize; 2],
     dumped_held: usize,
     event: [usize; 17],
-    /// Evenings by refusal; those refused after an event was taken; the longest that was taken whole.
+    /// Evenings by refusal; those refused after an event was taken, and after one was ignored; the longest that was not refused, and those of them that
+    /// ignored some; those with nothing but remarks.
     evening: [usize; 20],
     evening_late: usize,
+    evening_late_ignored: usize,
     evening_longest: usize,
+    evening_ignored: usize,
+    evening_all_ignored: usize,
     starts: [usize; 2],
     histories: usize,
     halted: usize,
@@ -270,6 +283,10 @@ impl Comparison {
         if second.refusal == 0 {
             self.counts.taken[second.operation as usize] += 1;
             self.counts.dumped_held += (second.released > 1) as usize;
+            self.counts.ignored_held += (second.operation == IGNORED && run.held > 0) as usize;
+        }
+        if is_remark(sheet, event) && (second.refusal == 11 || second.refusal == 12) {
+            self.counts.remarks_refused[second.refusal as usize - 11] += 1;
         }
         self.counts.places[14] += (second.refusal == 14 && second.a > 0 && second.b > 0) as usize;
         mark(&mut self.counts.memory_lengths, before.bytes().len());
@@ -324,12 +341,32 @@ impl Comparison {
             same_bytes(&call(), "memory (single calls)", memory, &third).map_err(around)?;
             same_bytes(&call(), "output (single calls)", &output, &third_output).map_err(around)?;
         }
+        if second.ignored > 0 {
+            self.left_out(sheet, run, log, &before, memory, &output, second).map_err(around)?;
+        }
         self.counts.evening[second.refusal as usize] += 1;
         self.counts.evening_late += (second.refusal != 0 && second.taken > 0) as usize;
+        self.counts.evening_late_ignored += (second.refusal != 0 && second.ignored > 0) as usize;
         if second.refusal == 0 {
-            self.counts.evening_longest = self.counts.evening_longest.max(second.taken);
+            self.counts.evening_longest = self.counts.evening_longest.max(second.taken + second.ignored);
+            self.counts.evening_ignored += (second.ignored > 0) as usize;
+            self.counts.evening_all_ignored += (second.ignored > 0 && second.taken == 0) as usize;
         }
         Ok((library, output, operations))
+    }
+
+    /// Leaving the remarks out of a log changes nothing but how many were ignored.
+    #[allow(clippy::too_many_arguments)]
+    fn left_out(&self, sheet: &Lent, run: Run, log: &[u8], before: &Lent, memory: &Lent, output: &Lent, told: Evening) -> Result<(), String> {
+        let log: Vec<u8> = log.iter().copied().filter(|&e| !is_remark(sheet, e)).collect();
+        let mut lent = before.clone();
+        let mut written = vec![0; output.bytes().len()];
+        let again = library::events(sheet.bytes(), run.state, run.held, &log, lent.bytes_mut(), &mut written);
+        let same = Evening { ignored: told.ignored, ..again } == told && again.ignored == 0;
+        if !same || lent != *memory || written[..again.released] != output.bytes()[..told.released] {
+            return Err(format!("pachallu_events without the remarks of its log is answered {:?}, and with them {:?}\n  log       {}", again, told, hex(&log)));
+        }
+        Ok(())
     }
 
     // ------------------------------------------------------------------------------------------ one rule file
@@ -402,6 +439,7 @@ impl Comparison {
         let mut told = History { taken: vec![], operations: vec![], released: vec![], held: vec![] };
         let mut left = dice.below(120);
         let holding = dice.one_in(2);
+        let remarks = dice.pick(&[3, 12, 40]);
         while left > 0 {
             left -= 1;
             let mut e = dice.below(rule.events);
@@ -412,8 +450,8 @@ impl Comparison {
                     e = dice.below(rule.events);
                 }
             }
-            if dice.one_in(40) {
-                e = dice.pick(&[rule.events, rule.events + 1, 64, 255]);
+            if dice.one_in(remarks) {
+                e = remark(dice, rule.events) as usize;
             }
             let lent = match dice.below(8) {
                 0 => dice.below(run.held + 2),
@@ -423,14 +461,14 @@ impl Comparison {
             };
             if dice.one_in(8) {
                 // some of the events in one call
-                let mut log: Vec<u8> = (0..dice.below(13)).map(|_| dice.below(rule.events) as u8).collect();
-                if dice.one_in(4) {
-                    log.push(e as u8);
-                }
+                let count = dice.below(13);
+                let log = some_events(dice, count, rule.events, remarks);
                 let lent = dice.pick(&[0, run.held + 1, run.held + log.len(), run.held + log.len() + 3]);
                 let (evening, output, operations) = self.evening(dice, sheet, run, &log, &mut memory, lent)?;
-                told.taken.extend_from_slice(&log[..evening.taken]);
-                told.operations.extend_from_slice(&operations[..evening.taken]);
+                for (&e, &operation) in log.iter().zip(&operations).filter(|(_, &operation)| operation != IGNORED) {
+                    told.taken.push(e);
+                    told.operations.push(operation);
+                }
                 told.released.extend_from_slice(&output.bytes()[..evening.released]);
                 run = Run { state: evening.state, held: evening.held };
                 continue;
@@ -443,7 +481,9 @@ impl Comparison {
                 }
             }
             let (answer, output) = self.event(dice, sheet, run, e as u8, &mut memory, lent)?;
-            if answer.refusal == 0 {
+            if answer.operation == IGNORED {
+                self.counts.ignored_halted += (told.operations.last() == Some(&0)) as usize;
+            } else if answer.refusal == 0 {
                 told.taken.push(e as u8);
                 told.operations.push(answer.operation);
                 told.released.extend_from_slice(&output.bytes()[..answer.released]);
@@ -485,7 +525,7 @@ impl Comparison {
                 3..=5 => run = Run { state: dice.below(n) as u8, held: dice.below(room + 1) },
                 _ => {}
             }
-            let e = if dice.one_in(8) { dice.pick(&[k, k + 1, 32, 255]) as u8 } else { dice.below(k) as u8 };
+            let e = if dice.one_in(6) { remark(dice, k) } else { dice.below(k) as u8 };
             let lent = dice.below(12);
             let (answer, _) = self.event(dice, sheet, run, e, &mut memory, lent)?;
             run = Run { state: answer.state, held: answer.held };
@@ -496,8 +536,8 @@ impl Comparison {
         // an evening from there, mostly of the rule's events: none, a few, as many as one call takes, more
         let long = dice.pick(&[4095, 4096, 4096, 4097, 4098, 5000]);
         let count = if dice.one_in(12) { long } else { dice.pick(&[0, 1, 2, 6, 20]) };
-        let most = if dice.one_in(3) { k + 1 } else { k };
-        let log: Vec<u8> = (0..count).map(|_| dice.below(most) as u8).collect();
+        let remarks = dice.pick(&[1, 2, 5, 1000]);
+        let log = some_events(dice, count, k, remarks);
         let lent = dice.pick(&[0, 1, 4, run.held.min(room) + count, 4096 + room]);
         if dice.one_in(8) {
             run = Run { state: dice.pick(&[n, 255]) as u8, held: dice.below(room + 3) };
@@ -568,9 +608,9 @@ fn run_program(words: &str, input: &[u8]) -> Result<Vec<u8>, String> {
     }
 }
 
-/// The library's own single calls, each given the unwritten rest of the output, up to the first refusal.
+/// The library's own single calls, each given the unwritten rest of the output, up to the first refusal; and their operations.
 fn single_calls(sheet: &Lent, run: Run, log: &[u8], memory: &mut Lent, output: &mut Lent, operations: &mut Vec<u8>) -> Evening {
-    let mut evening = Evening { refusal: 0, a: 0, b: 0, state: run.state, held: run.held, taken: 0, released: 0 };
+    let mut evening = Evening { refusal: 0, a: 0, b: 0, state: run.state, held: run.held, taken: 0, released: 0, ignored: 0 };
     for &code in log {
         let rest = &mut output.bytes_mut()[evening.released..];
         let answer = library::event(sheet.bytes(), evening.state, evening.held, code, memory.bytes_mut(), rest);
@@ -578,15 +618,33 @@ fn single_calls(sheet: &Lent, run: Run, log: &[u8], memory: &mut Lent, output: &
             return Evening { refusal: answer.refusal, a: answer.a, b: answer.b, ..evening };
         }
         operations.push(answer.operation);
+        let ignored = (answer.operation == IGNORED) as usize;
         evening = Evening {
             state: answer.state,
             held: answer.held,
-            taken: evening.taken + 1,
+            taken: evening.taken + 1 - ignored,
             released: evening.released + answer.released,
+            ignored: evening.ignored + ignored,
             ..evening
         };
     }
     evening
+}
+
+/// An event that is not one of the rule's k: the first ones and the last one more often.
+fn remark(dice: &mut Dice, k: usize) -> u8 {
+    let any = k + dice.below(256 - k);
+    dice.pick(&[k, k, k + 1, 255, any, any]) as u8
+}
+
+/// So many events, a remark with the chance of one in `remarks`.
+fn some_events(dice: &mut Dice, count: usize, k: usize, remarks: usize) -> Vec<u8> {
+    (0..count).map(|_| if dice.one_in(remarks) { remark(dice, k) } else { dice.below(k) as u8 }).collect()
+}
+
+/// Is the event past those of the sheet, or, where that is none, of any sheet?
+fn is_remark(sheet: &Lent, event: u8) -> bool {
+    event as usize >= monitor::open(sheet.bytes()).map_or(monitor::EVENTS, |opened| opened.events)
 }
 
 fn mark(lengths: &mut Vec<bool>, len: usize) {
@@ -682,6 +740,15 @@ impl Comparison {
         let (second, output) = self.event(dice, &sheet, Run { state: first.state, held: first.held }, 2, &mut none, 8)?;
         if first.refusal != 15 || second.refusal != 0 || second.released != 1 || output.bytes()[0] != 2 {
             return Err(format!("rule A with a memory of length 0: {:?}, then {:?}", first, second));
+        }
+        // the last event of A is taken, the first code past it is not, and remarks stand anywhere in a log
+        let (last, _) = self.event(dice, &sheet, Run { state: 0, held: 0 }, 2, &mut none, 1)?;
+        let (past, _) = self.event(dice, &sheet, Run { state: 0, held: 0 }, 3, &mut none, 1)?;
+        let mut memory = Lent::blank(dice, 1);
+        let (evening, output, _) = self.evening(dice, &sheet, Run { state: 0, held: 0 }, &[3, 0, 255, 1, 31, 2, 32], &mut memory, 8)?;
+        let told = (evening.refusal, evening.taken, evening.ignored, &output.bytes()[..evening.released]);
+        if (last.operation, past.operation) != (2, IGNORED) || told != (0, 3, 4, &[0, 1, 2][..]) {
+            return Err(format!("rule A with codes that are not the rule's: {:?}, {:?}, {:?}", last, past, evening));
         }
         self.whys_of_the_paper(dice, &a, &o)?;
         self.edges(dice, &a, &d)
@@ -801,16 +868,23 @@ fn report(c: &Counts) {
         list(&c.event, 1..=16)
     );
     println!(
+        "             ignored {} ({} with events held, {} after a halt); remarks refused 11: {}, 12: {}",
+        c.taken[3], c.ignored_held, c.ignored_halted, c.remarks_refused[0], c.remarks_refused[1]
+    );
+    println!(
         "             memory of every length under {}, output of every length under {}",
         gap(&c.memory_lengths),
         gap(&c.output_lengths)
     );
     println!(
-        "evenings     {} taken whole, the longest of {} events; refused {}, {} of them after an event was taken",
-        c.evening[0],
-        c.evening_longest,
+        "evenings     {} gone through, the longest of {} events, {} with remarks ({} with nothing else)",
+        c.evening[0], c.evening_longest, c.evening_ignored, c.evening_all_ignored
+    );
+    println!(
+        "             refused {}, {} of them after an event was taken, {} after one was ignored",
         list(&c.evening, 1..=19),
-        c.evening_late
+        c.evening_late,
+        c.evening_late_ignored
     );
     println!("histories    {} judged by the definition of acceptance, {} of them with a halt", c.histories, c.halted);
 }
@@ -820,7 +894,7 @@ fn lacking(c: &Counts, printing: bool) -> Vec<String> {
     let mut faults = Vec::new();
     for no in 1..=16 {
         let met = c.made[no] + c.event[no];
-        if no != 10 && met < ENOUGH {
+        if no != 10 && no != 13 && met < ENOUGH {
             faults.push(format!("refusal {} was met {} times; at least {} are wanted", no, met, ENOUGH));
         }
         if [5, 6, 8, 9, 14].contains(&no) && c.places[no] == 0 {
@@ -839,13 +913,25 @@ fn lacking(c: &Counts, printing: bool) -> Vec<String> {
             c.made[16], c.event[16], ENOUGH
         ));
     }
-    for no in (11..=16).chain([19]) {
+    for no in [11, 12, 14, 15, 16, 19] {
         if c.evening[no] < ENOUGH {
             faults.push(format!("an evening was refused {} {} times; at least {} are wanted", no, c.evening[no], ENOUGH));
         }
     }
     if c.evening_late < ENOUGH || c.evening_longest < monitor::EVENING {
         faults.push(format!("evenings refused after an event was taken, and one of {} events, are wanted", monitor::EVENING));
+    }
+    let remarks = [
+        ("ignored with events held", c.ignored_held),
+        ("ignored after a halt", c.ignored_halted),
+        ("refused 11", c.remarks_refused[0]),
+        ("refused 12", c.remarks_refused[1]),
+        ("in evenings that were refused later", c.evening_late_ignored),
+        ("in evenings that were gone through", c.evening_ignored),
+        ("in evenings of nothing else", c.evening_all_ignored),
+    ];
+    for (what, met) in remarks.iter().filter(|(_, met)| *met < ENOUGH) {
+        faults.push(format!("remarks {}: met {} times; at least {} are wanted", what, met, ENOUGH));
     }
     for class in 1..=4 {
         if c.sound[class] < ENOUGH {

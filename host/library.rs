@@ -53,6 +53,7 @@ pub struct Evening {
     pub held: usize,
     pub taken: usize,
     pub released: usize,
+    pub ignored: usize,
 }
 
 #[repr(C)]

@@ -475,40 +475,49 @@ pub struct Taken {
     pub released: usize,
 }
 
+/// What an event that is not refused is answered.
+#[derive(Clone, Copy, PartialEq, Eq, Debug)]
+pub enum Answer {
+    Taken(Taken),
+    /// Not the rule's business (M-104): nothing changes, and it is not taken.
+    Ignored,
+}
+
 /// A fresh run: refusal 11.
 pub fn fresh(sheet: &[u8]) -> Result<Run, Refusal> {
     Ok(Run { state: open(sheet)?.initial as u8, held: 0 })
 }
 
-/// One event: refusals 11 to 16.
-pub fn event(sheet: &[u8], run: Run, event: u8, memory: &mut [u8], output: &mut [u8]) -> Result<Taken, Refusal> {
+/// One event: refusals 11, 12, 14 to 16.
+pub fn event(sheet: &[u8], run: Run, event: u8, memory: &mut [u8], output: &mut [u8]) -> Result<Answer, Refusal> {
     let opened = open(sheet)?;
     let (s, e) = (run.state as usize, event as usize);
     if s >= opened.states || run.held > memory.len() {
         return refuse(12);
     }
     if e >= opened.events {
-        return refuse(13);
+        return Ok(Answer::Ignored);
     }
     let row = &opened.cells[s * opened.events..][..opened.events];
     let (next, operation) = (row[e] % 64, row[e] / 64);
     if next as usize >= opened.states {
         return refuse_at(14, s, e);
     }
+    let taken = |operation, held, released| Ok(Answer::Taken(Taken { operation, run: Run { state: next, held }, released }));
     match operation {
-        0 => Ok(Taken { operation: Operation::Halt, run: Run { state: next, held: run.held }, released: 0 }),
+        0 => taken(Operation::Halt, run.held, 0),
         1 => {
             if run.held == memory.len() {
                 return refuse(15);
             }
             memory[run.held] = event;
-            Ok(Taken { operation: Operation::Store, run: Run { state: next, held: run.held + 1 }, released: 0 })
+            taken(Operation::Store, run.held + 1, 0)
         }
         2 => {
             let mut release = memory[..run.held].to_vec();
             release.push(event);
             let released = put(&release, output)?;
-            Ok(Taken { operation: Operation::Dump, run: Run { state: next, held: 0 }, released })
+            taken(Operation::Dump, 0, released)
         }
         _ => refuse_at(14, s, e),
     }
@@ -517,19 +526,21 @@ pub fn event(sheet: &[u8], run: Run, event: u8, memory: &mut [u8], output: &mut 
 /// The longest log that one call takes.
 pub const EVENING: usize = 4096;
 
-/// What came of a log: where the run stands after the events taken, how many these are, what they released, and the refusal that ended it.
+/// What came of a log: where the run stands after the events taken, how many these are, what they released, how many were ignored, and the refusal that
+/// ended it.
 #[derive(Clone, PartialEq, Eq, Debug)]
 pub struct Evening {
     pub run: Run,
     pub taken: usize,
     pub released: usize,
+    pub ignored: usize,
     pub refusal: Option<Refusal>,
 }
 
 /// A log in one call (M-101): refusal 19, and then, as the paper says, the single calls, each with the part of the output that is not yet
 /// written. With no event at all it looks at what a call looks at before the event: refusals 11 and 12.
 pub fn events(sheet: &[u8], run: Run, log: &[u8], memory: &mut [u8], output: &mut [u8]) -> Evening {
-    let mut evening = Evening { run, taken: 0, released: 0, refusal: None };
+    let mut evening = Evening { run, taken: 0, released: 0, ignored: 0, refusal: None };
     if log.len() > EVENING {
         evening.refusal = Some(Refusal { no: 19, a: 0, b: 0 });
         return evening;
@@ -543,11 +554,12 @@ pub fn events(sheet: &[u8], run: Run, log: &[u8], memory: &mut [u8], output: &mu
     }
     for &code in log {
         match event(sheet, evening.run, code, memory, &mut output[evening.released..]) {
-            Ok(taken) => {
+            Ok(Answer::Taken(taken)) => {
                 evening.run = taken.run;
                 evening.taken += 1;
                 evening.released += taken.released;
             }
+            Ok(Answer::Ignored) => evening.ignored += 1,
             Err(refusal) => {
                 evening.refusal = Some(refusal);
                 break;

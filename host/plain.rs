@@ -448,6 +448,9 @@ fn open(sheet: &[u8]) -> Checked<Sheet<'_>> {
     Ok(Sheet { cells, n, k })
 }
 
+/// The operation of an event that is not the rule's.
+const IGNORED: u8 = 3;
+
 struct Taken {
     operation: u8,
     state: u8,
@@ -461,7 +464,7 @@ fn step(sheet: &Sheet<'_>, state: u8, held: usize, event: u8, memory: &mut [u8],
         return refused(12, 0, 0);
     }
     if event >= sheet.k {
-        return refused(13, 0, 0);
+        return Ok(Taken { operation: IGNORED, state, held, released: 0 });
     }
     let cell = sheet.cells[state as usize * sheet.k as usize + event as usize];
     let next = cell % 64;
@@ -553,27 +556,29 @@ pub fn find(job: &[u8], office: &[u8], number: u8, age: u16) -> Found {
 /// Opens the sheet once and takes the events one after another.
 #[inline(never)]
 pub fn events(sheet: &[u8], state: u8, held: usize, log: &[u8], memory: &mut [u8], output: &mut [u8]) -> Evening {
-    let ended = |r: Refusal, state: u8, held: usize, taken: usize, released: usize| Evening { refusal: r.no, a: r.a, b: r.b, state, held, taken, released };
+    let mut evening = Evening { refusal: 0, a: 0, b: 0, state, held, taken: 0, released: 0, ignored: 0 };
+    let ended = |r: Refusal, evening: Evening| Evening { refusal: r.no, a: r.a, b: r.b, ..evening };
     if log.len() > 4096 {
-        return ended(Refusal { no: 19, a: 0, b: 0 }, state, held, 0, 0);
+        return ended(Refusal { no: 19, a: 0, b: 0 }, evening);
     }
     let sheet = match open(sheet) {
         Ok(sheet) => sheet,
-        Err(r) => return ended(r, state, held, 0, 0),
+        Err(r) => return ended(r, evening),
     };
     if state >= sheet.n || held > memory.len() {
-        return ended(Refusal { no: 12, a: 0, b: 0 }, state, held, 0, 0);
+        return ended(Refusal { no: 12, a: 0, b: 0 }, evening);
     }
-    let (mut state, mut held, mut released) = (state, held, 0);
-    for (taken, &event) in log.iter().enumerate() {
-        match step(&sheet, state, held, event, memory, &mut output[released..]) {
+    for &event in log {
+        match step(&sheet, evening.state, evening.held, event, memory, &mut output[evening.released..]) {
+            Ok(t) if t.operation == IGNORED => evening.ignored += 1,
             Ok(t) => {
-                state = t.state;
-                held = t.held;
-                released += t.released;
+                evening.state = t.state;
+                evening.held = t.held;
+                evening.taken += 1;
+                evening.released += t.released;
             }
-            Err(r) => return ended(r, state, held, taken, released),
+            Err(r) => return ended(r, evening),
         }
     }
-    Evening { refusal: 0, a: 0, b: 0, state, held, taken: log.len(), released }
+    evening
 }

@@ -7,6 +7,8 @@
  *     dump    the held events and then this one are released: they stand in the output, from its front
  *     halt    no continuation can make the events acceptable any more: nothing is released, the event is not held, what was
  *             held stays held; every later event of the rule is answered halt too
+ *     ignore  the code is not one of the rule's events (it is K or more, of K events): a remark, a weather code. Nothing changes, at any
+ *             time, after a halt too: state and held are those that were given, nothing is released, and it does not count as taken
  *
  * What has been released is always the longest beginning of the taken events that the rule accepts.
  *
@@ -24,7 +26,8 @@
  *         held = a.held;
  *
  * pachallu_events takes up to 4,096 events in one call: what it does to the run, the memory and the output is what single calls of
- * pachallu_event do, one after another, each given the unwritten rest of the output. A halt does not end it; the first refused event does.
+ * pachallu_event do, one after another, each given the unwritten rest of the output. A halt does not end it, nor does an ignored code; the first
+ * refused event does.
  *
  * THE RUN STATE is the two numbers `state` and `held`, and the first `held` bytes of the memory. The library keeps nothing
  * between calls: carry the two numbers from each answer into the next call, with the same sheet and the same memory, and leave
@@ -61,7 +64,7 @@
  *   - `const` buffers are only read.
  *   - Nothing outside of what an answer names is written: pachallu_make writes sheet[0] to sheet[written - 1],
  *     pachallu_add out[0] to out[written - 1]; a store writes the one byte memory[held] (held as it was given); a dump writes
- *     output[0] to output[released - 1]; a halt and pachallu_find write nothing; pachallu_why writes way[0] to way[length - 1].
+ *     output[0] to output[released - 1]; a halt, an ignored code and pachallu_find write nothing; pachallu_why writes way[0] to way[length - 1].
  *
  * A REFUSAL (`refusal` not 0) changes no byte of any buffer. A refused make or add has written 0; a refused find has book, start
  * and length 0 (a rule that was found may have length 0 too: look at `refusal`); a refused start has state 0 and held 0; a
@@ -69,9 +72,9 @@
  * length 0: look at `refusal` before `operation`. A refused event is not taken: the same or another one may be offered next, for instance with
  * a longer output.
  * `a` and `b` are the two places of the table below, 0 where none is named.
- * pachallu_events keeps what came before the event that was refused: its state, held, taken and released, the memory and the output
- * are those that the events taken left, and the refused event, log[taken], changed nothing. With refusal 19, or for an empty log, nothing
- * was taken: the answer has the state and held that were given, and no byte changed.
+ * pachallu_events keeps what came before the event that was refused: its state, held, taken, released and ignored, the memory and the output
+ * are those that the codes before it left, and the refused event, log[taken + ignored], changed nothing. With refusal 19, or for an empty log,
+ * nothing was taken or ignored: the answer has the state and held that were given, and no byte changed.
  *
  *     no.  given when                                                                        a, b
  *      1   rule file under 12 or over 3,212 bytes, or its last two bytes are not 72, 82
@@ -89,7 +92,7 @@
  *     11   this is no sheet: length, mark, sizes or initial state are wrong
  *     12   this is no run state of the sheet: state too great, or more held than the memory
  *          is long; for pachallu_why: the rule has no such state
- *     13   the event is not one of the rule's
+ *     13   the event is not one of the rule's (pachallu_why alone: a run ignores it)
  *     14   the sheet's cell is spoiled                                                       state, event
  *     15   to be stored, but the memory is full
  *     16   the output has too little room (for pachallu_why: the way)
@@ -97,11 +100,11 @@
  *          longer than the book, an entry's second byte is not 0, or the rules, in the       0 for the book of pachallu_add
  *          order of the entries, do not exactly fill the book up to the directory
  *     18   neither book has the number, or the book that is used has no such age
- *     19   the log is over 4,096 events
+ *     19   the log is over 4,096 codes, ignored ones counted
  *     26   the book has 1,024 entries already
  *
- * pachallu_make gives 1 to 10, then 16; pachallu_fresh gives 11; pachallu_event gives 11 to 16;
- * pachallu_events gives 19, then 11 and 12 (of an empty log too), then 13 to 16 of each event in turn; always the first that holds.
+ * pachallu_make gives 1 to 10, then 16; pachallu_fresh gives 11; pachallu_event gives 11, 12, and, of an event of the rule, 14 to 16;
+ * pachallu_events gives 19, then 11 and 12 (of an empty log too), then 14 to 16 of each event in turn; always the first that holds.
  * pachallu_why gives 1 to 10, 12 for the state, 13 for the event, then 16, in this order.
  * pachallu_find gives 17, then 18; pachallu_add gives 17, 1 to 10, 26, then 16, in this order.
  * pachallu_print tells 1 to 10 in its text, and gives 16. pachallu_refusal_text puts a number into words.
@@ -136,13 +139,14 @@ extern "C" {
 /* The longest way of pachallu_why. */
 #define PACHALLU_WAY_MAX 63
 
-/* The longest log of pachallu_events. */
+/* The longest log of pachallu_events, in codes, ignored or not. */
 #define PACHALLU_LOG_MAX 4096
 
-/* pachallu_answer.operation and pachallu_reason.operation */
+/* pachallu_answer.operation; all but the last also pachallu_reason.operation */
 #define PACHALLU_HALT 0
 #define PACHALLU_STORE 1
 #define PACHALLU_DUMP 2
+#define PACHALLU_IGNORE 3
 
 typedef struct {
     uint8_t refusal; /* 0: done */
@@ -158,21 +162,22 @@ typedef struct {
 } pachallu_start;
 
 typedef struct {
-    uint8_t refusal;   /* 0: taken */
+    uint8_t refusal;   /* 0: taken, or ignored */
     uint8_t a, b;      /* places of a refusal */
-    uint8_t operation; /* PACHALLU_HALT, PACHALLU_STORE or PACHALLU_DUMP */
+    uint8_t operation; /* PACHALLU_HALT, PACHALLU_STORE, PACHALLU_DUMP or PACHALLU_IGNORE */
     uint8_t state;     /* the run state after the event, for the next call */
     size_t held;
     size_t released;   /* bytes at the front of the output: held as given + 1 for a dump, else 0 */
 } pachallu_answer;
 
 typedef struct {
-    uint8_t refusal; /* 0: all taken; else that of the first event that was refused, log[taken], or 19, or 11 or 12 */
+    uint8_t refusal; /* 0: all taken or ignored; else that of the first event that was refused, log[taken + ignored], or 19, or 11 or 12 */
     uint8_t a, b;    /* places of a refusal */
     uint8_t state;   /* the run state after the events taken, for the next call */
     size_t held;
-    size_t taken;    /* events taken, from the front of the log */
+    size_t taken;    /* events taken; with the ignored codes among them, from the front of the log */
     size_t released; /* bytes at the front of the output */
+    size_t ignored;  /* codes that are not the rule's */
 } pachallu_evening;
 
 typedef struct {
@@ -189,7 +194,7 @@ pachallu_made pachallu_make(const uint8_t *rule, size_t rule_len, uint8_t *sheet
 /* Begins a run. sheet_len is the sheet's exact length, `written` of pachallu_make. */
 pachallu_start pachallu_fresh(const uint8_t *sheet, size_t sheet_len);
 
-/* Takes one event. An output of memory_len + 1 bytes is always enough. */
+/* Takes one event, or ignores a code that is none of the rule's. An output of memory_len + 1 bytes is always enough. */
 pachallu_answer pachallu_event(const uint8_t *sheet, size_t sheet_len, uint8_t state, size_t held, uint8_t event,
                                uint8_t *memory, size_t memory_len, uint8_t *output, size_t output_len);
 
@@ -212,7 +217,7 @@ pachallu_found pachallu_find(const uint8_t *job, size_t job_len, const uint8_t *
 pachallu_made pachallu_add(const uint8_t *book, size_t book_len, uint8_t number, const uint8_t *rule, size_t rule_len,
                            uint8_t *out, size_t out_len);
 
-/* Takes up to PACHALLU_LOG_MAX events, each release right after the one before. An output of held + log_len bytes is always enough. */
+/* Takes up to PACHALLU_LOG_MAX codes, the ignored ones counted, each release right after the one before. An output of held + log_len bytes is always enough. */
 pachallu_evening pachallu_events(const uint8_t *sheet, size_t sheet_len, uint8_t state, size_t held, const uint8_t *log, size_t log_len,
                                  uint8_t *memory, size_t memory_len, uint8_t *output, size_t output_len);
 

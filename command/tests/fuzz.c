@@ -169,6 +169,7 @@ static const char *const words[] = {
     "class ", "codes ", "start ", "accept ",      "note \"",  "else ",    "-> ",          ", ",      "= ",          "R ",
     "P ",     "0 ",     "1 ",     "31",           "64 ",      "safety\n", "\n",           "\r\n",    "\"",          "\\",
     "\\x0",   "\\n",    "#",      "\xef\xbb\xbf", "\xc3\xb1", "\xc2\xa0", "pachallu 1\n", "states ", "99999999999", " a b c d e f ",
+    "remarks ", "40=",  " 255=",
 };
 
 static size_t put_in(uint8_t *bytes, size_t len, size_t at, const void *part, size_t part_len) {

@@ -82,7 +82,7 @@ static size_t list_names(char *line, const char *word, size_t count) {
 
 static size_t names(const struct rule *rule, char *note) {
     size_t used = (size_t)sprintf(note, "pachallu 1\n");
-    used += list_names(note + used, "codes", rule->codes);
+    used += list_names(note + used, "codes", rule->codes + (dice(3) ? 0 : dice(60))); /* some with remarks */
     used += list_names(note + used, "states", rule->states);
     return used;
 }

@@ -16,13 +16,13 @@ use Rattle.making.proofs.GivenLaws.{make-ends}
 use Rattle.effects.proofs.KeptLaws.{turn-one, store-ends, dump-ends}
 use Rattle.monitor.specs.Event.{turnOf}
 use Rattle.monitor.proofs.FreshLaws.{open-ends, fresh-ends}
-use Rattle.monitor.proofs.GivenLaws.{event-ends}
+use Rattle.monitor.proofs.GivenLaws.{event-ends, event-ignores}
 use Rattle.monitor.proofs.EveningGivenLaws.{evening-one, evening-ends}
 use Rattle.why.proofs.GivenLaws.{why-ends}
 use Rattle.why.proofs.OneAnswer.{ground-one}
 use Rattle.printed.specs.Printing.{textOf}
 use Rattle.printed.proofs.GivenLaws.{print-ends}
-use Rattle.pachallu.proofs.EndsLaws.{c-put-ends, c-find-ends, c-fresh-ends, c-event-ends, c-evening-ends, c-why-ends}
+use Rattle.pachallu.proofs.EndsLaws.{c-put-ends, c-find-ends, c-fresh-ends, c-event-ends, c-event-ignores, c-evening-ends, c-why-ends}
 use Rattle.demands.specs.Demand1.{Demand1}
 
 pub demand-1 : Demand1
@@ -45,6 +45,7 @@ demand-1 =
       fresh = fresh-ends;
       one-event = λ sheet run e memory output. turn-one (turnOf sheet run e memory output) run e memory output;
       event = λ sheet run e memory output r memory′ output′ p. event-ends sheet run e memory output p;
+      event-ignored = λ sheet run e memory output r memory′ output′ p. event-ignores sheet run e memory output p;
       one-evening = evening-one;
       evening = λ sheet run log memory output r memory′ output′ p. evening-ends sheet run memory output r memory′ output′ log p;
       store = λ next run e memory r memory′ p. store-ends p;
@@ -57,6 +58,7 @@ demand-1 =
       c-add = λ b number rule out r out′ p. c-put-ends (λ w. add-ends b number rule out) p;
       c-fresh = λ sheet r p. c-fresh-ends p;
       c-event = λ sheet state held event memory output r memory′ output′ p. c-event-ends p;
+      c-event-ignored = λ sheet state held event memory output r memory′ output′ p. c-event-ignores p;
       c-evening = λ sheet state held log memory output r memory′ output′ p. c-evening-ends p;
       c-why = λ rule state event way r way′ p. c-why-ends p;
       shape = shape-gives;

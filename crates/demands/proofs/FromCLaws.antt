@@ -24,10 +24,10 @@ use Rattle.monitor.specs.Event.{turnOf, EventPromise}
 use Rattle.monitor.proofs.GivenLaws.{turn-refuses}
 use Rattle.effects.proofs.KeptLaws.{away-of}
 use Rattle.effects.specs.declared.Answer.{Answer}
-use Rattle.effects.specs.declared.Answer.the-variants.{Taken, Refused}
+use Rattle.effects.specs.declared.Answer.the-variants.{Taken, Ignored, Refused}
 use Rattle.history.specs.Course.{Entry}
 use Rattle.history.specs.History.{History, fresh, call, others}
-use Rattle.history.proofs.HistoryLaws.{mark-back}
+use Rattle.history.proofs.HistoryLaws.{mark-back, mark-known}
 use Rattle.history.proofs.EveningLaws.{evening-history}
 use Rattle.pachallu.specs.Told.{madeOf, startedOf, answeredOf, runOf}
 use Rattle.pachallu.specs.declared.Made.{Made as CMade}
@@ -59,7 +59,9 @@ c-made {file} {sheet} m = by (m .promise .answer) (m .promise .promise) (m .prom
 c-call : {sheet : List ℕ} {log : List Entry} {released : List ℕ} {state held : ℕ} {memory : List ℕ} → History sheet log released (runOf state held) memory
     → (e : ℕ) (output memory′ output′ : List ℕ) (a : Answer) → EventPromise sheet (runOf state held) (eventNo e) memory output a memory′ output′
     → let r = answeredOf a (runOf state held) in History sheet (logWith r e log) (released ++ take (r .released) output′) (runOf (r .state) (r .held)) memory′
-c-call {log = log} h e output memory′ output′ (Taken o run n) p = rw (mark-back o) (call h (eventNo e) output (Taken o run n) memory′ output′ p)
+c-call {log = log} {released = released} h e output memory′ output′ Ignored p =
+    rw (append-nil released) (call h (eventNo e) output Ignored memory′ output′ p)
+c-call {log = log} h e output memory′ output′ (Taken o run n) p = rw (mark-known o, mark-back o) (call h (eventNo e) output (Taken o run n) memory′ output′ p)
 c-call {sheet} {log} {released} {state} {held} {memory} h e output memory′ output′ (Refused x) p =
     let run = runOf state held in
     let turn = turnOf sheet run (eventNo e) memory output in

@@ -22,7 +22,7 @@ use Rattle.sheet.specs.Layout.{sheetOf}
 use Rattle.sheet.specs.Opening.{opens, openedOf}
 use Rattle.monitor.specs.Event.{cellTurn, lookOf}
 use Rattle.history.specs.History.{History, call}
-use Rattle.demands.specs.Marked.{A, S, G, O, D, Stand, eight, one, all, markOf, marked, found, wanted}
+use Rattle.demands.specs.Marked.{A, S, G, O, D, Stand, eight, begin, one, all, markOf, marked, found, wanted}
 
 -- the layout of setup rule A, byte for byte
 pub file-A : fileOf A ≡ 1 ∷ 2 ∷ 0 ∷ 2 ∷ 0 ∷ 2 ∷ 2 ∷ 2 ∷ 2 ∷ 1 ∷ 0 ∷ 0 ∷ 0 ∷ 0 ∷ 0 ∷ 0 ∷ 0 ∷ 0 ∷ 0 ∷ 0 ∷ 0 ∷ 0 ∷ 0 ∷ 0 ∷ 0 ∷ 4 ∷ 3 ∷ 3 ∷ 1 ∷ 0 ∷ 0 ∷
@@ -59,6 +59,13 @@ pub the-twelve : found marked ≡ wanted marked
 unfolding found wanted markOf all one sheetOf digits operationAt smallestOf paper.valueOf reachOf has insert including meetsBelow meets target
     withMoves movedBelow movedSet spread reachedWithin inRange opens openedOf cellTurn lookOf
 the-twelve = refl
+
+-- the fourth with codes between that are not the rule's business: the same, for they are not taken
+pub remarked : markOf (all (sheetOf A) (begin (sheetOf A)) (9 ∷ 0 ∷ 1 ∷ 255 ∷ 2 ∷ 0 ∷ 3 ∷ 1 ∷ 0 ∷ 2 ∷ 200 ∷ []))
+    ≡ record { released = 0 ∷ 1 ∷ 2 ∷ 0 ∷ 1 ∷ []; held = 0 ∷ []; halt = 7 }
+unfolding markOf all one sheetOf digits operationAt smallestOf paper.valueOf reachOf has insert including meetsBelow meets target
+    withMoves movedBelow movedSet spread reachedWithin inRange opens openedOf cellTurn lookOf
+remarked = refl
 
 -- a computed run is a history
 one-history : (sheet : List ℕ) (s : Stand) (e : ℕ) → History sheet (s .log) (s .released) (s .run) (s .memory)

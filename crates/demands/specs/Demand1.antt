@@ -4,9 +4,11 @@
 -- That each call returns, whatever it is given, is proved of each function with its contract: none has a `requires`. Here, for each call: there is
 -- exactly one answer, with one content of each lent slice; how it ends (`Ends`, crate rule, specs/Given): it tells 0 where no row of the call's table holds,
 -- else the number and the places of the first row that does, in the call's order of checking; and what a refused call leaves.
--- A refused event's answer has no run state: the caller keeps its own. From C it is told back.
--- An evening ends at its first refused event. There the demand, and the rule that a refusal changes nothing, hold of that event, not of those taken before it:
--- what it leaves is what these left (`EveningKept`, crate monitor, specs/Given).
+-- A refused or ignored event's answer has no run state: the caller keeps its own. From C it is told back.
+-- Ignored is an answer and not a refusal: it is given exactly when 11 and 12 do not hold and the event is K or more, and nothing changes (`Ignores`, crate
+-- monitor, specs/Given).
+-- An evening ends at its first refused event. There the demand, and the rule that a refusal changes nothing, hold of that event, not of those before it:
+-- what it leaves is what these left (`EveningKept`, there too).
 -- Assumes nothing: this is a statement. proofs/Demand1 proves it.
 use Prim.Native.Nat.{ℕ}
 use mathlib.Core.Path.{_≡_}
@@ -44,7 +46,7 @@ use Rattle.effects.specs.declared.Answer.{Answer}
 use Rattle.monitor.specs.Fresh.{startOf}
 use Rattle.monitor.specs.Event.{EventPromise}
 use Rattle.monitor.specs.Evening.{EveningPromise}
-use Rattle.monitor.specs.Given.{FreshRow, freshOrder, EventRow, eventOrder, EveningRow, eveningOrder, EveningKept}
+use Rattle.monitor.specs.Given.{FreshRow, freshOrder, EventRow, eventOrder, Ignores, EveningRow, eveningOrder, EveningKept}
 use Rattle.monitor.specs.declared.Evening.{Evening}
 use Rattle.why.specs.Given.{Asking, whyOrder}
 use Rattle.why.specs.Why.{WhyPromise, groundTold}
@@ -52,7 +54,7 @@ use Rattle.why.specs.declared.Ground.{Ground}
 use Rattle.printed.specs.Printing.{PrintPromise, Printing, printingOrder}
 use Rattle.pachallu.specs.Told.{MakeForC, PrintForC, AddForC, FindForC, FreshForC, EventForC, runOf}
 use Rattle.pachallu.specs.Told.{madeTold, foundTold, startedTold, answeredTold, PutKept, FindKept, FreshKept, EventKept}
-use Rattle.pachallu.specs.Told.{EveningForC, eveningTold, EveningKeptForC}
+use Rattle.pachallu.specs.Told.{IgnoresForC, EveningForC, eveningTold, EveningKeptForC}
 use Rattle.pachallu.specs.Told.{WhyForC, reasonTold, WhyKept}
 use Rattle.pachallu.specs.declared.Made.{Made}
 use Rattle.pachallu.specs.declared.Found.{Found}
@@ -91,11 +93,13 @@ pub record Demand1 : Type 0 where
   -- a sheet, opened, and a run started on it: 11; refused, state 0 with nothing held
   pub opening : (sheet : List ℕ) → Ends (FreshRow sheet) freshOrder (openedTold (openedOf sheet)) (openedOf sheet ≡ Shut)
   pub fresh : (sheet : List ℕ) → Ends (FreshRow sheet) freshOrder (verdictTold (startOf sheet .verdict)) (startOf sheet .run ≡ freshRun (stateNo 0))
-  -- one event: 11 to 16; refused, the memory and the output as they were
+  -- one event: 11, 12, then 14 to 16; refused, the memory and the output as they were; and when it is ignored
   pub one-event : (sheet : List ℕ) (run : Run) (e : EventNo) (memory output : List ℕ) → OneAnswer (EventPromise sheet run e memory output)
   pub event : (sheet : List ℕ) (run : Run) (e : EventNo) (memory output : List ℕ) (r : Answer) (memory′ output′ : List ℕ)
       → EventPromise sheet run e memory output r memory′ output′
       → Ends (EventRow sheet run e (length memory) (length output)) eventOrder (answerTold r) ((memory′ ≡ memory) × (output′ ≡ output))
+  pub event-ignored : (sheet : List ℕ) (run : Run) (e : EventNo) (memory output : List ℕ) (r : Answer) (memory′ output′ : List ℕ)
+      → EventPromise sheet run e memory output r memory′ output′ → Ignores sheet run e memory output r memory′ output′
   -- an evening of events: 19; then, with no event, 11 and 12, else the numbers of the first event that is refused; refused, what came before it is kept
   pub one-evening : (sheet : List ℕ) (run : Run) (log memory output : List ℕ) → OneAnswer (EveningPromise sheet run log memory output)
   pub evening : (sheet : List ℕ) (run : Run) (log memory output : List ℕ) (r : Evening) (memory′ output′ : List ℕ)
@@ -110,8 +114,8 @@ pub record Demand1 : Type 0 where
   pub one-print : (f out : List ℕ) → OneWritten (PrintPromise f out)
   pub print : (f out : List ℕ) (w : Written) (out′ : List ℕ) → PrintPromise f out w out′
       → Ends (Printing f (length out)) printingOrder (writtenTold w) (out′ ≡ out)
-  -- from C the same calls, told in numbers; refused, every buffer and the run state that was given are as they were, or,
-  -- of an evening, as the events that it took left them
+  -- from C the same calls, told in numbers; refused or ignored, every buffer and the run state that was given are as they were, or,
+  -- of a refused evening, as the events before the refused one left them
   pub c-make : (rule out : List ℕ) (r : Made) (out′ : List ℕ) → MakeForC rule out r out′
       → Ends (Making rule (length out)) makingOrder (madeTold r) (PutKept out r out′)
   pub c-print : (rule out : List ℕ) (r : Made) (out′ : List ℕ) → PrintForC rule out r out′
@@ -125,6 +129,8 @@ pub record Demand1 : Type 0 where
       → EventForC sheet state held event memory output r memory′ output′
       → Ends (EventRow sheet (runOf state held) (eventNo event) (length memory) (length output)) eventOrder (answeredTold r)
       (EventKept state held memory output r memory′ output′)
+  pub c-event-ignored : (sheet : List ℕ) (state held event : ℕ) (memory output : List ℕ) (r : Answered) (memory′ output′ : List ℕ)
+      → EventForC sheet state held event memory output r memory′ output′ → IgnoresForC sheet state held event memory output r memory′ output′
   pub c-evening : (sheet : List ℕ) (state held : ℕ) (log memory output : List ℕ) (r : EveningTold) (memory′ output′ : List ℕ)
       → EveningForC sheet state held log memory output r memory′ output′
       → Ends (EveningRow sheet (runOf state held) log memory output) eveningOrder (eveningTold r)

@@ -3,7 +3,8 @@
 -- and with one accepting pair at every such point. After a halt every event under K is taken and answered halt.
 --
 -- It speaks of one sheet that `make` made from a rule file, and of any history of calls on it (crate history, specs/History): each call keeps the
--- promise of one event and gets the run state that the call before returned; refused events are not taken; the memory has one length.
+-- promise of one event and gets the run state that the call before returned; refused and ignored events are not taken, so it reads over the others
+-- (specs/Ignored); the memory has one length.
 -- An evening of events in one call takes a history on as its single calls do (specs/Evening), so it holds of any mix of the two.
 -- Assumes nothing: this is a statement. proofs/Demand3 proves it.
 use Prim.Native.Nat.{ℕ, _≤_, _<_}

@@ -1,7 +1,7 @@
 -- M-101. An evening of up to 4,096 events in one call: it equals the single calls, each given the unwritten rest of the output; it takes a history on; two are
 -- one; and when it refuses. Demand 1 has what a refused one leaves.
 -- Assumes nothing: this is a statement. proofs/Evening proves it.
-use Prim.Native.Nat.{ℕ, _≤_, _<_}
+use Prim.Native.Nat.{ℕ, _+_, _≤_, _<_}
 use mathlib.Core.Path.{_≡_}
 use mathlib.Core.Bool.{true}
 use mathlib.Core.Logic.{_↔_}
@@ -14,7 +14,8 @@ use Rattle.rule.specs.declared.Refusal.the-variants.{Log}
 use Rattle.rule.specs.declared.Verdict.the-variants.{Sound, Refused}
 use Rattle.rulefile.specs.Layout.{drawingIn}
 use Rattle.effects.specs.declared.Run.{Run}
-use Rattle.monitor.specs.Evening.{Entry, codes, eveningOf, EveningPromise, SingleCalls, bothOf}
+use Rattle.monitor.specs.Evening.{Entry, eveningOf, EveningPromise, SingleCalls, bothOf}
+use Rattle.monitor.specs.Known.{SoFar}
 use Rattle.monitor.specs.Given.{StandRow, standOrder}
 use Rattle.monitor.specs.declared.Evening.{Evening}
 use Rattle.history.specs.History.{History}
@@ -27,16 +28,17 @@ pub record OfEvenings (sheet : List ℕ) (run : Run) (log memory output : List �
   -- memory and the output are those that such calls leave, and no others
   pub single-calls : (e : ℕ) (es : List ℕ) → log ≡ e ∷ es → length log ≤ 4096
       → SingleCalls sheet run log memory output r memory′ output′
-  -- the events taken are a beginning of the log, as many as are reported
-  pub rest : List ℕ
-  pub beginning : log ≡ codes (eveningOf sheet run log memory output .taken) ++ rest
-  pub count : r .taken ≡ length (codes (eveningOf sheet run log memory output .taken))
-  -- 19 exactly for a log over 4,096 events, with nothing taken and nothing changed
+  -- a beginning of the log is passed: its events under K are taken and the others ignored, as many as are reported
+  pub passed : SoFar sheet log (eveningOf sheet run log memory output)
+  pub count-taken : r .taken ≡ length (eveningOf sheet run log memory output .taken)
+  pub count-ignored : r .ignored ≡ length (eveningOf sheet run log memory output .ignored)
+  pub count : r .taken + r .ignored ≡ length (passed .front)
+  -- 19 exactly for a log over 4,096 events, ignored ones too, with nothing taken and nothing changed
   pub too-long : (r .verdict ≡ Refused Log) ↔ (4096 < length log)
   -- an empty log gives 11 and 12
   pub empty : log ≡ [] → (x : Refusal) → (r .verdict ≡ Refused x) ↔ Given (StandRow sheet run (length memory)) x standOrder
   -- 11 and 12 cannot come after the first event
-  pub first-only : (x : Refusal) → r .verdict ≡ Refused x → among (toldOf x .number) standOrder ≡ true → r .taken ≡ 0
+  pub first-only : (x : Refusal) → r .verdict ≡ Refused x → among (toldOf x .number) standOrder ≡ true → (r .taken ≡ 0) × (r .ignored ≡ 0)
 
 pub record EveningDemand : Type 0 where
   pub each : (sheet : List ℕ) (run : Run) (log memory output : List ℕ) (r : Evening) (memory′ output′ : List ℕ)

@@ -3,7 +3,7 @@
 -- Assumes nothing.
 use Prim.Native.Nat.{ℕ}
 use mathlib.Core.Path.{_≡_}
-use mathlib.Core.Bool.{cond}
+use mathlib.Core.Bool.{cond, not, _&&_}
 use mathlib.Core.List.{List, [], _∷_, _++_}
 use lib.ListN.{length, take}
 use lib.Dec.{eqb}
@@ -25,13 +25,13 @@ pub record MadeForC (file sheet : List ℕ) : Type 0 where
   pub done : made .refusal ≡ 0
   pub front : sheet ≡ take (made .written) out′
 
--- what a call adds to the log: with refusal 0 its event and operation, else nothing
+-- what a call adds to the log: with refusal 0 and an operation that is not 3 its event and operation, else nothing
 abbrev pub logWith : Answered → ℕ → List Entry → List Entry
-logWith r e log = cond (eqb (r .refusal) 0) (log ++ record { code = e; operation = operationOf (r .operation) } ∷ []) log
+logWith r e log = cond (eqb (r .refusal) 0 && not (eqb (r .operation) 3)) (log ++ record { code = e; operation = operationOf (r .operation) } ∷ []) log
 
 -- any mix of calls of `pachallu_event` and `pachallu_events` since a `pachallu_fresh` with refusal 0. Each gets the state and the held number that the one
 -- before returned, and an output of any length and content; the memory has one length, and between calls its bytes outside the held ones may change.
--- An evening adds the events that it took, with the operations that the single calls answer
+-- An evening adds the events that it took, with the operations that the single calls answer; refused and ignored calls may stand anywhere between
 pub data HistoryForC (sheet : List ℕ) : (log : List Entry) (released : List ℕ) (state held : ℕ) (memory : List ℕ) → Type 0 where
   fresh : (r : Started) (memory : List ℕ) → FreshForC sheet r → r .refusal ≡ 0 → HistoryForC sheet [] [] (r .state) (r .held) memory
   call : {log : List Entry} {released : List ℕ} {state held : ℕ} {memory : List ℕ} → HistoryForC sheet log released state held memory

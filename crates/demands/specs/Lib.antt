@@ -6,6 +6,8 @@ pub mod Demand3
 pub mod Evening
 -- M-102: why an event is answered as it is
 pub mod Why
+-- M-104: codes that are not the rule's business
+pub mod Ignored
 -- what they speak of: a sheet made by this build, and the calls of a C program
 pub mod Made
 pub mod FromC

@@ -13,8 +13,8 @@ use Rattle.effects.specs.Effects.{answerIn, memoryIn, outputIn, TurnProm
 use Rattle.effects.specs.Effects.{OneAnswer, answerTold, StoreTable, storeOrder, DumpTable, dumpOrder}
 use Rattle.effects.specs.declared.Run.{Run}
 use Rattle.effects.specs.declared.Turn.{Turn}
-use Rattle.effects.specs.declared.Turn.the-variants.{Move, Refused as Away}
-use Rattle.effects.specs.declared.Answer.the-variants.{Refused}
+use Rattle.effects.specs.declared.Turn.the-variants.{Move, Ignored, Refused as Away}
+use Rattle.effects.specs.declared.Answer.the-variants.{Ignored as Overlooked, Refused}
 use Rattle.rule.specs.Given.{NoRow, NoRows, here, After, row, last, done, refused, Ends}
 use native.Mathlib.Decide.{decLe}
 use borrow.Author.Tests.{le-leb, lt-leb}
@@ -23,9 +23,18 @@ use Rattle.effects.specs.declared.Answer.{Answer}
 -- a refused answer comes of a refused turn
 pub away-of : (t : Turn) (held : ℕ) (x : Refusal) → Refused x ≡ answerIn t held → t ≡ Away x
 away-of (Away y) held x p = let e : x ≡ y = cc in ap Away (sym e)
+away-of Ignored held x p = absurd (let z : _≡_ {A = ℕ} 0 1 = cc in omega arith)
 away-of (Move Halt s) held x p = absurd (let z : _≡_ {A = ℕ} 0 1 = cc in omega arith)
 away-of (Move Store s) held x p = absurd (let z : _≡_ {A = ℕ} 0 1 = cc in omega arith)
 away-of (Move Dump s) held x p = absurd (let z : _≡_ {A = ℕ} 0 1 = cc in omega arith)
+
+-- an ignored answer comes of an ignored turn
+pub ignored-of : (t : Turn) (held : ℕ) → Overlooked ≡ answerIn t held → t ≡ Ignored
+ignored-of Ignored held p = refl
+ignored-of (Away y) held p = absurd (let z : _≡_ {A = ℕ} 0 1 = cc in omega arith)
+ignored-of (Move Halt s) held p = absurd (let z : _≡_ {A = ℕ} 0 1 = cc in omega arith)
+ignored-of (Move Store s) held p = absurd (let z : _≡_ {A = ℕ} 0 1 = cc in omega arith)
+ignored-of (Move Dump s) held p = absurd (let z : _≡_ {A = ℕ} 0 1 = cc in omega arith)
 
 -- a turn has one answer, and one memory and output after it
 pub turn-one : (t : Turn) (run : Run) (e : EventNo) (memory output : List ℕ) → OneAnswer (TurnPromise t run e memory output)

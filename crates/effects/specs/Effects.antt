@@ -14,9 +14,9 @@ use Rattle.rule.specs.declared.Operation.the-variants.{Halt, Store, Dump}
 use Rattle.rule.specs.declared.Refusal.the-variants.{Memory, Room}
 use Rattle.effects.specs.declared.Run.{Run}
 use Rattle.effects.specs.declared.Turn.{Turn}
-use Rattle.effects.specs.declared.Turn.the-variants.{Move, Refused}
+use Rattle.effects.specs.declared.Turn.the-variants.{Move, Ignored, Refused}
 use Rattle.effects.specs.declared.Answer.{Answer}
-use Rattle.effects.specs.declared.Answer.the-variants.{Taken, Refused as Declined}
+use Rattle.effects.specs.declared.Answer.the-variants.{Taken, Ignored as Overlooked, Refused as Declined}
 use Rattle.rule.specs.Given.{Table, NoRows, After}
 
 -- a run at a state with nothing held
@@ -33,25 +33,29 @@ dumpTurn next held space = cond (leb space held) (Refused Room) (Move Dump next)
 -- a turn, where there is room for it
 abbrev pub roomTurn : Turn → (held room space : ℕ) → Turn
 roomTurn (Refused r) held room space = Refused r
+roomTurn Ignored held room space = Ignored
 roomTurn (Move Halt t) held room space = Move Halt t
 roomTurn (Move Store t) held room space = storeTurn t held room
 roomTurn (Move Dump t) held room space = dumpTurn t held space
 
--- the answer: a halted event is not held and a stored one is; a dump releases held + 1 and leaves nothing held
+-- the answer: a halted event is not held and a stored one is; a dump releases held + 1 and leaves nothing held; an ignored event has no run state
 abbrev pub answerIn : Turn → (held : ℕ) → Answer
 answerIn (Refused r) held = Declined r
+answerIn Ignored held = Overlooked
 answerIn (Move Halt t) held = Taken Halt (record { state = t; held = held }) 0
 answerIn (Move Store t) held = Taken Store (record { state = t; held = held + 1 }) 0
 answerIn (Move Dump t) held = Taken Dump (record { state = t; held = 0 }) (held + 1)
 
--- what an answer tells: 0 where the event was taken, else the refusal's number and places
+-- what an answer tells: 0 where the event was taken or ignored, else the refusal's number and places
 abbrev pub answerTold : Answer → Told
 answerTold (Taken o run n) = tell 0 0 0
+answerTold Overlooked = tell 0 0 0
 answerTold (Declined r) = toldOf r
 
 -- the memory after it: store writes one byte, at the place after the held ones
 abbrev pub memoryIn : Turn → (held code : ℕ) → (memory : List ℕ) → List ℕ
 memoryIn (Refused r) held code memory = memory
+memoryIn Ignored held code memory = memory
 memoryIn (Move Halt t) held code memory = memory
 memoryIn (Move Store t) held code memory = set memory held code
 memoryIn (Move Dump t) held code memory = memory
@@ -59,6 +63,7 @@ memoryIn (Move Dump t) held code memory = memory
 -- the output after it: dump writes the held events and then this one, from the front
 abbrev pub outputIn : Turn → (held code : ℕ) → (memory output : List ℕ) → List ℕ
 outputIn (Refused r) held code memory output = output
+outputIn Ignored held code memory output = output
 outputIn (Move Halt t) held code memory output = output
 outputIn (Move Store t) held code memory output = output
 outputIn (Move Dump t) held code memory output = (take held memory ++ (code ∷ [])) ++ drop (held + 1) output

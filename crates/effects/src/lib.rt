@@ -14,19 +14,21 @@ pub struct Run {
     pub held: usize,
 }
 
-// What one event comes to before the buffers are touched: a move with its operation, or a refusal.
+// What one event comes to before the buffers are touched: a move with its operation; nothing, where it is not the rule's business; or a refusal.
 pub enum Turn {
     Move(Operation, StateNo),
+    Ignored,
     Refused(Refusal),
 }
 
-// What one event is answered: it was taken, or it was refused and nothing changed.
+// What one event is answered: it was taken; or it was ignored, or refused, and nothing changed.
 pub enum Answer {
     Taken {
         operation: Operation,
         run: Run,
         released: usize,
     },
+    Ignored,
     Refused(Refusal),
 }
 

@@ -8,8 +8,8 @@ use lib.ListN.{length, take}
 use lib.Seq.{take-append-seam}
 use Rattle.rule.specs.Drawing.{eventNo}
 use Rattle.effects.specs.declared.Run.{Run}
-use Rattle.effects.specs.declared.Answer.the-variants.{Taken, Refused}
-use Rattle.monitor.specs.Evening.{Entry, Outcome, eveningOf, EveningPromise, Calls, over, refused, taken}
+use Rattle.effects.specs.declared.Answer.the-variants.{Taken, Ignored, Refused}
+use Rattle.monitor.specs.Evening.{Entry, Outcome, eveningOf, EveningPromise, Calls, over, refused, ignored, taken}
 use Rattle.monitor.specs.declared.Evening.{Evening}
 use Rattle.monitor.proofs.CallsLaws.{calls-of}
 use Rattle.monitor.proofs.EveningGivenLaws.{is-long, is-empty, is-calls}
@@ -31,6 +31,8 @@ module _ {sheet : List ℕ} where
   calls-history over h = no-more h
   calls-history (refused {e = e} {output = output} {x = x} {memory′ = memory′} {output′ = output′} p) h =
       no-more (call h (eventNo e) output (Refused x) memory′ output′ p)
+  calls-history (ignored {e = e} {output = output} {memory′ = memory′} {output′ = output′} p c) h =
+      calls-history c (call h (eventNo e) output Ignored memory′ output′ p)
   calls-history (taken {e = e} {output = output} {o = o} {next = next} {n = n} {memory′ = memory′} {output′ = output′} {later = later} p c) {log} {released} h =
       let entry : List Entry = record { code = e; operation = o } ∷ [] in
       rw (append-assoc log entry (later .taken), append-assoc released (take n output′) (later .released)) at

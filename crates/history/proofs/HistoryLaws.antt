@@ -19,7 +19,7 @@ use Rattle.rule.specs.declared.EventNo.{EventNo}
 use Rattle.rule.specs.declared.Operation.{Operation}
 use Rattle.rule.specs.declared.Operation.the-variants.{Halt, Store, Dump}
 use Rattle.rule.specs.declared.Refusal.{Refusal}
-use Rattle.rule.specs.declared.Refusal.the-variants.{Code, Memory, Room}
+use Rattle.rule.specs.declared.Refusal.the-variants.{Memory, Room}
 use Rattle.rule.specs.declared.Verdict.the-variants.{Sound}
 use Rattle.sheet.specs.Opening.{openedOf}
 use Rattle.sheet.specs.declared.Head.{Head}
@@ -32,7 +32,7 @@ use Rattle.monitor.specs.Event.{cellTurn, lookOf, turnOf, stepTurn}
 use Rattle.effects.specs.declared.Run.{Run}
 use Rattle.monitor.specs.declared.Start.{Start}
 use Rattle.effects.specs.declared.Turn.{Turn}
-use Rattle.effects.specs.declared.Turn.the-variants.{Move, Refused}
+use Rattle.effects.specs.declared.Turn.the-variants.{Move, Ignored, Refused}
 use Rattle.history.specs.Course.{Entry, codes, releasedBy, heldBy, Course, start, step, Kept, KeptSharp}
 use Rattle.history.specs.History.{History, fresh, call, others, logAfter, runAfter, releasedAfter}
 use Rattle.history.proofs.CourseLaws.{course-kept, course-sharp, course-at, course-all, course-out, halted, halt-store, store-dump}
@@ -49,7 +49,7 @@ mark-back Halt = refl
 mark-back Store = refl
 mark-back Dump = refl
 
-mark-known : (o : Operation) → eqb (markOf o) 3 ≡ false
+pub mark-known : (o : Operation) → eqb (markOf o) 3 ≡ false
 mark-known Halt = refl
 mark-known Store = refl
 mark-known Dump = refl
@@ -57,6 +57,7 @@ mark-known Dump = refl
 -- what a call comes to, in the machine's terms
 data Seen (m : Machine) (q e held room : ℕ) : Turn → Type 0 where
   away : (r : Refusal) → Seen m q e held room (Refused r)
+  past : Seen m q e held room Ignored
   went : (o : Operation) → m .operation (m .next q e) ≡ o → e < m .events → (o ≡ Store → held < room) → Seen m q e held room (Move o (stateNo (m .next q e)))
 
 module _ (m : Machine) (L : Laws m) (sheet : List ℕ) (D : Drawn m sheet) where
@@ -73,8 +74,8 @@ module _ (m : Machine) (L : Laws m) (sheet : List ℕ) (D : Drawn m sheet) where
     abbrev cell : ℕ
     cell = getD sheet (run .state .0 * m .events + e .0) 0
 
-    -- an event past the machine's is refused
-    look-past : m .events ≤ e .0 → lookOf head sheet run e (length memory) ≡ Refused Code
+    -- an event past the machine's is ignored
+    look-past : m .events ≤ e .0 → lookOf head sheet run e (length memory) ≡ Ignored
     unfolding lookOf
     look-past k = simp (lt-leb _ _ v, le-ltb _ _ f, le-leb _ _ k)
 
@@ -108,7 +109,7 @@ module _ (m : Machine) (L : Laws m) (sheet : List ℕ) (D : Drawn m sheet) where
     see-room Dump p k space a (no b) = let g : run .held < space = omega arith in rw (lt-leb _ _ g) (went Dump p k (λ h. absurd (store-dump h refl)))
 
     see-by : (output : List ℕ) → Dec (m .events ≤ e .0) → Seen m (run .state .0) (e .0) (run .held) (length memory) (stepTurn head sheet run e memory output)
-    see-by output (yes k) = rw (look-past k) (away Code)
+    see-by output (yes k) = rw (look-past k) past
     see-by output (no k) =
         let u : e .0 < m .events = omega arith in
         rw (look-move u) (see-room (m .operation to) refl u (length output) (decLe (length memory) (run .held)) (decLe (length output) (run .held)))
@@ -132,6 +133,7 @@ module _ (m : Machine) (L : Laws m) (sheet : List ℕ) (D : Drawn m sheet) where
       (releasedAfter (answerIn turn (run .held)) (outputIn turn (run .held) (e .0) memory output) released)
       (runAfter (answerIn turn (run .held)) run) (memoryIn turn (run .held) (e .0) memory)
   follow-turn log released run memory e output f turn (away r) = f
+  follow-turn log released run memory e output f turn past = f
   follow-turn log released run memory e output f turn (went Halt p u g) =
       record {
         course = rw append-nil (course-by (f .course) (e .0) u Halt p);
@@ -165,6 +167,14 @@ module _ (m : Machine) (L : Laws m) (sheet : List ℕ) (D : Drawn m sheet) where
   follows (others h memory′ l t) =
       let f = follows h in
       record { course = rw t (f .course); valid = f .valid; within = omega (arith, l, f .within) }
+
+  -- on a history's run every event past the machine's is ignored
+  pub history-ignores : {log : List Entry} {released : List ℕ} {run : Run} {memory : List ℕ} → History sheet log released run memory
+      → (e : EventNo) → m .events ≤ e .0 → (output : List ℕ) → turnOf sheet run e memory output ≡ Ignored
+  history-ignores {run = run} {memory = memory} h e k output =
+      let f = follows h in
+      turn-is run e memory output
+      ∙ ap (λ (t : Turn). roomTurn t (run .held) (length memory) (length output)) (look-past run e memory (f .valid) (f .within) k)
 
   -- demand 3 of any history on the machine's sheet
   pub history-kept : {log : List Entry} {released : List ℕ} {run : Run} {memory : List ℕ} → History sheet log released run memory

@@ -2,3 +2,4 @@ pub mod CourseLaws
 pub mod HistoryLaws
 pub mod EveningLaws
 pub mod RoomLaws
+pub mod IgnoredLaws

@@ -1,11 +1,12 @@
 -- Each refusal of an evening is given exactly when its row of the table holds and no earlier row does; a refused evening keeps what came before,
 -- and the refused event changes nothing. Assumes nothing.
-use Prim.Native.Nat.{ℕ, suc, _≤_, _<_}
+use Prim.Native.Nat.{ℕ, suc, _+_, _≤_, _<_}
 use native.Mathlib.Omega.{arith}
 use native.Mathlib.Decide.{decLt}
 use mathlib.Core.Path.{_≡_, refl, sym, ap, _∙_}
-use mathlib.Core.Bool.{true}
-use mathlib.Core.List.{List, [], _∷_, _++_}
+use mathlib.Core.Bool.{Bool, true, false, cond}
+use lib.Dec.{ltb}
+use mathlib.Core.List.{List, [], _∷_, _++_, append-nil}
 use mathlib.Core.Logic.{_↔_, inr}
 use lib.ListN.{length, length-append}
 use lib.Seq.{drop-append-seam}
@@ -15,25 +16,39 @@ use Rattle.rule.specs.Given.{Table, NoRow, Given, here, later, Ends}
 use Rattle.rule.specs.Refusals.{toldOf, among, verdictTold}
 use Rattle.rule.specs.declared.Refusal.{Refusal}
 use Rattle.rule.specs.declared.Refusal.the-variants.{Log}
+use Rattle.rule.specs.declared.Verdict.{Verdict}
 use Rattle.rule.specs.declared.Verdict.the-variants.{Sound, Refused}
 use Rattle.rule.proofs.BoolLaws.{clash}
 use Rattle.rule.proofs.NumberLaws.{among-says, among-ahead}
 use Rattle.rule.proofs.RefusalLaws.{not-both}
 use Rattle.rule.proofs.TableLaws.{Within, ahead, own-row, only-given, as-rows, sound-exactly, verdict-ends}
 use Rattle.sheet.specs.Opening.{openedOf}
+use Rattle.sheet.specs.Layout.{headIn}
 use Rattle.effects.specs.Effects.{OneAnswer}
 use Rattle.effects.specs.declared.Run.{Run}
 use Rattle.monitor.specs.Evening.{Entry, codes, Outcome, idle, callsOf, standsBy, eveningOf, reportOf, Reports, EveningPromise}
-use Rattle.monitor.specs.Given.{standOrder, StandRow, eventOrder, RefusedAt, eveningOrder, EveningRow, too-long, no-event, event-refused, EveningKept}
+use Rattle.monitor.specs.Given.{standOrder, StandRow, cellOrder, eventOrder, RefusedAt, eveningOrder}
+use Rattle.monitor.specs.Given.{EveningRow, too-long, no-event, event-refused, EveningKept}
+use Rattle.monitor.specs.Known.{known, remarks, SoFar}
 use Rattle.monitor.specs.declared.Evening.{Evening}
 use Rattle.monitor.proofs.GivenLaws.{stand-within, stand-rows, refused-when, turn-refuses}
-use Rattle.monitor.proofs.CallsLaws.{calls-of, calls-front}
 use Rattle.monitor.proofs.EveningLaws.{is-short}
-use Rattle.monitor.proofs.FirstLaws.{stopped, some-none, refused-call, found, found-ends, all-taken, first-only}
+use Rattle.monitor.proofs.FirstLaws.{stopped, some-none, refused-call, found, found-ends, all-passed, first-only}
 
 pub codes-long : (l : List Entry) → length (codes l) ≡ length l
 codes-long [] = refl
 codes-long (x ∷ l) = ap suc (codes-long l)
+
+-- the events of a log under k and those that are not are all of it
+pub parts-long : (k : ℕ) (log : List ℕ) → length (known k log) + length (remarks k log) ≡ length log
+unfolding known remarks
+parts-long k [] = refl
+parts-long k (e ∷ es) = by (ltb e k) (parts-long k es)
+  where
+    by : (b : Bool) → length (known k es) + length (remarks k es) ≡ length es
+        → length (cond b (e ∷ known k es) (known k es)) + length (cond b (remarks k es) (e ∷ remarks k es)) ≡ suc (length es)
+    by true p = omega (arith, p)
+    by false p = omega (arith, p)
 
 -- an evening has one report, and one memory and output after it
 pub evening-one : (sheet : List ℕ) (run : Run) (log memory output : List ℕ) → OneAnswer (EveningPromise sheet run log memory output)
@@ -79,7 +94,7 @@ module _ (sheet : List ℕ) (run : Run) (memory output : List ℕ) where
   evening-within log n x (too-long h) = record { number = refl; listed = refl }
   evening-within log n x (no-event q r) =
       let w = stand-within sheet run (length memory) n x r in
-      record { number = w .number; listed = among-says n 19 eventOrder .1 (inr (among-ahead n standOrder (13 ∷ 14 ∷ 15 ∷ 16 ∷ []) (w .listed))) }
+      record { number = w .number; listed = among-says n 19 eventOrder .1 (inr (among-ahead n standOrder cellOrder (w .listed))) }
   evening-within log n x (event-refused s R q) = record { number = q; listed = rw q at (listed log x R) }
 
   -- some: then the evening is the single calls, and its rows are those of the first event that is refused
@@ -108,7 +123,7 @@ module _ (sheet : List ℕ) (run : Run) (memory output : List ℕ) where
       λ n y q. (no-event refl, empty-row n y) in
       let a = as-rows same (stand-rows sheet run (length memory)) in
       later (λ y r. clash (stand-within sheet run (length memory) 19 y (empty-row 19 y r) .listed) refl)
-      (ahead (13 ∷ 14 ∷ 15 ∷ 16 ∷ []) (a .gives x .0 (rw is-empty at p)))
+      (ahead cellOrder (a .gives x .0 (rw is-empty at p)))
   gives-by (e ∷ es) (no h) x p = let s : length (e ∷ es) ≤ 4096 = omega arith in some-gives e es s x (rw (is-calls e es s) at p)
 
   pub evening-gives : (log : List ℕ) (x : Refusal) → evening log .verdict ≡ Refused x → Given (T log) x eveningOrder
@@ -135,7 +150,7 @@ module _ (sheet : List ℕ) (run : Run) (memory output : List ℕ) where
           before = [];
           after = log;
           whole = refl;
-          taken = ap (λ (y : Evening). y .taken) (P .report);
+          passed = rw (P .report);
           left = record { report = rw (P .report); memory-after = P .memory-after; output-after = P .output-after };
           changes-nothing = λ s e es q y v. absurd (some-none (sym q ∙ none s));
         }
@@ -146,15 +161,14 @@ module _ (sheet : List ℕ) (run : Run) (memory output : List ℕ) where
         let left = callsOf sheet run (R .before) memory output in
         let P : Reports (stopped left x) r memory′ output′ = rw (is-calls e es short ∙ found-ends sheet run (e ∷ es) memory output x R) at p in
         let c = refused-call sheet (left .run) (R .event) (left .memory) (left .rest) x (R .refused) in
-        let all : length (left .taken) ≡ length (R .before) =
-        sym (codes-long (left .taken)) ∙ ap length (all-taken sheet (R .before) run memory output (R .all-taken)) in
+        let all = all-passed sheet (R .before) run memory output (R .none-refused) in
         record {
           before = R .before;
           after = R .event ∷ R .after;
           whole = R .whole;
-          taken = ap (λ (y : Evening). y .taken) (P .report) ∙ all;
+          passed = rw (P .report, ← codes-long (left .taken), all .0, all .1) (parts-long (headIn sheet .events) (R .before));
           left = record {
-            report = rw (P .report, R .all-taken);
+            report = rw (P .report, R .none-refused);
             memory-after = P .memory-after;
             output-after = P .output-after;
           };
@@ -195,27 +209,41 @@ module _ (sheet : List ℕ) (run : Run) (memory output : List ℕ) where
   pub empty-when : (x : Refusal) → (evening [] .verdict ≡ Refused x) ↔ Given (StandRow sheet run (length memory)) x standOrder
   empty-when x = rw is-empty (stand-rows sheet run (length memory) .gives x)
 
-  -- with 11 or 12 no event was taken
-  pub first-alone : (log : List ℕ) (x : Refusal) → evening log .verdict ≡ Refused x → among (toldOf x .number) standOrder ≡ true → evening log .taken ≡ []
+  -- with 11 or 12 no event was taken or ignored
+  pub first-alone : (log : List ℕ) (x : Refusal) → evening log .verdict ≡ Refused x → among (toldOf x .number) standOrder ≡ true
+      → (evening log .taken ≡ []) × (evening log .ignored ≡ [])
   unfolding callsOf
   first-alone log = by log (decLt 4096 (length log))
     where
       by : (log : List ℕ) → Dec (4096 < length log) → (x : Refusal) → evening log .verdict ≡ Refused x → among (toldOf x .number) standOrder ≡ true
-          → evening log .taken ≡ []
-      by log (yes h) x p a = ap (λ (y : Outcome). y .taken) (is-long log h)
-      by [] (no h) x p a = ap (λ (y : Outcome). y .taken) is-empty
+          → (evening log .taken ≡ []) × (evening log .ignored ≡ [])
+      by log (yes h) x p a = rw (is-long log h) (refl, refl)
+      by [] (no h) x p a = rw is-empty (refl, refl)
       by (e ∷ es) (no h) x p a =
           let s : length (e ∷ es) ≤ 4096 = omega arith in
           let R = found sheet (e ∷ es) run memory output x (rw (is-calls e es s) at p) in
-          let none = first-only sheet run memory output x a (R .before) (R .event) (R .all-taken) (R .refused) in
-          ap (λ (y : Outcome). y .taken) (is-calls e es s ∙ found-ends sheet run (e ∷ es) memory output x R)
-          ∙ ap (λ (l : List ℕ). callsOf sheet run l memory output .taken) none
+          let none = first-only sheet run memory output x a (R .before) (R .event) (R .none-refused) (R .refused) in
+          rw (is-calls e es s ∙ found-ends sheet run (e ∷ es) memory output x R, none) (refl, refl)
 
-  -- the events taken are a beginning of the log
-  pub evening-front : (log : List ℕ) → (rest : List ℕ) × (log ≡ codes (evening log .taken) ++ rest)
-  evening-front log = by log (decLt 4096 (length log))
+  -- what an evening passes
+  none-passed : (log : List ℕ) (v : Verdict) → evening log ≡ idle run memory output v → SoFar sheet log (evening log)
+  unfolding known remarks
+  none-passed log v i = rw i (record { front = []; rest = log; beginning = refl; taken = refl; ignored = refl })
+
+  calls-passed : (log : List ℕ) (v : Verdict) → callsOf sheet run log memory output .verdict ≡ v → SoFar sheet log (callsOf sheet run log memory output)
+  calls-passed log Sound p =
+      let a = all-passed sheet log run memory output p in
+      record { front = log; rest = []; beginning = sym (append-nil log); taken = a .0; ignored = a .1 }
+  calls-passed log (Refused x) p =
+      let R = found sheet log run memory output x p in
+      let a = all-passed sheet (R .before) run memory output (R .none-refused) in
+      rw (found-ends sheet run log memory output x R)
+      (record { front = R .before; rest = R .event ∷ R .after; beginning = R .whole; taken = a .0; ignored = a .1 })
+
+  pub evening-passed : (log : List ℕ) → SoFar sheet log (evening log)
+  evening-passed log = by log (decLt 4096 (length log))
     where
-      by : (log : List ℕ) → Dec (4096 < length log) → (rest : List ℕ) × (log ≡ codes (evening log .taken) ++ rest)
-      by log (yes h) = (log, rw (is-long log h))
-      by [] (no h) = ([], rw is-empty)
-      by (e ∷ es) (no h) = let f = calls-front sheet (calls-of sheet run (e ∷ es) memory output) in (f .0, rw (is-calls e es (omega arith)) (f .1))
+      by : (log : List ℕ) → Dec (4096 < length log) → SoFar sheet log (evening log)
+      by log (yes h) = none-passed log (Refused Log) (is-long log h)
+      by [] (no h) = none-passed [] _ is-empty
+      by (e ∷ es) (no h) = rw (is-calls e es (omega arith)) (calls-passed (e ∷ es) _ refl)

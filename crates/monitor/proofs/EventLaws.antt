@@ -16,7 +16,7 @@ use Rattle.rule.specs.declared.EventNo.{EventNo}
 use Rattle.rule.specs.declared.Operation.{Operation}
 use Rattle.rule.specs.declared.Operation.the-variants.{Halt, Store, Dump}
 use Rattle.rule.specs.declared.Refusal.{Refusal}
-use Rattle.rule.specs.declared.Refusal.the-variants.{Sheet as NoSheet, Run as BadRun, Code, Cell, Memory, Room}
+use Rattle.rule.specs.declared.Refusal.the-variants.{Sheet as NoSheet, Run as BadRun, Cell, Memory, Room}
 use Rattle.sheet.specs.Opening.{openedOf}
 use Rattle.sheet.proofs.OpeningLaws.{place-inside}
 use Rattle.sheet.specs.declared.Head.{Head}
@@ -27,9 +27,9 @@ use Rattle.monitor.specs.Event.{cellTurn, cellAt, unfit, lookOf, StepPro
 use Rattle.effects.specs.Effects.{roomTurn, answerIn, memoryIn, outputIn, TurnPromise, StorePromise, DumpPromise}
 use Rattle.effects.specs.declared.Run.{Run}
 use Rattle.effects.specs.declared.Turn.{Turn}
-use Rattle.effects.specs.declared.Turn.the-variants.{Move, Refused}
+use Rattle.effects.specs.declared.Turn.the-variants.{Move, Ignored, Refused}
 use Rattle.effects.specs.declared.Answer.{Answer}
-use Rattle.effects.specs.declared.Answer.the-variants.{Refused as Declined}
+use Rattle.effects.specs.declared.Answer.the-variants.{Ignored as Overlooked, Refused as Declined}
 
 -- what a cell says
 module _ (cell states : ℕ) (run : Run) (e : EventNo) where
@@ -71,9 +71,9 @@ module _ (h : Head) (sheet : List ℕ) (run : Run) (e : EventNo) (room : ℕ) {b
     pub cell-inside : {i : ℕ} → i ≡ placeOf (h .events) (run .state .0) (e .0) → Sheet h ≡ openedOf sheet → e .0 < h .events → i < length sheet
     cell-inside q o a = rw q (place-inside sheet h o (run .state .0) state-fits (e .0) a)
 
-    pub code-13 : h .events ≤ e .0 → Refused Code ≡ lookOf h sheet run e room
+    pub code-past : h .events ≤ e .0 → Ignored ≡ lookOf h sheet run e room
     unfolding lookOf
-    code-13 a = rw (fit, le-leb _ _ a)
+    code-past a = rw (fit, le-leb _ _ a)
 
     -- with none of these it is what the cell says
     pub code-fits : {t : Turn} → e .0 < h .events → t ≡ cellTurn (cellAt h sheet run e) (h .states) run e → t ≡ lookOf h sheet run e room
@@ -112,6 +112,9 @@ module _ (h : Head) (sheet : List ℕ) (run : Run) (e : EventNo) (memory output 
 
   pub step-refused : {r : Refusal} → t ≡ Refused r → StepPromise h sheet run e memory output (Declined r) memory output
   step-refused q = turned _ _ _ (rw q (record { answer = refl; memory-after = refl; output-after = refl }))
+
+  pub step-ignored : t ≡ Ignored → StepPromise h sheet run e memory output Overlooked memory output
+  step-ignored q = turned _ _ _ (rw q (record { answer = refl; memory-after = refl; output-after = refl }))
 
   module _ {o : Operation} {n : StateNo} (move : t ≡ Move o n) where
     pub step-halt : {r : Answer} → o ≡ Halt → r ≡ answerIn (Move Halt n) (run .held) → StepPromise h sheet run e memory output r memory output

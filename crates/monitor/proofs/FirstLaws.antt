@@ -18,23 +18,35 @@ use Rattle.rule.proofs.BoolLaws.{clash}
 use Rattle.rule.proofs.RefusalLaws.{not-both}
 use Rattle.rule.proofs.TableLaws.{own-row, sound-exactly}
 use Rattle.sheet.specs.Opening.{openedOf}
+use Rattle.sheet.specs.Layout.{headIn}
+use borrow.Author.Tests.{le-ltb, lt-ltb}
 use Rattle.effects.specs.Effects.{answerIn, memoryIn, outputIn}
 use Rattle.effects.specs.declared.Run.{Run}
 use Rattle.effects.specs.declared.Turn.{Turn}
-use Rattle.effects.specs.declared.Turn.the-variants.{Move, Refused as Away}
+use Rattle.effects.specs.declared.Turn.the-variants.{Move, Ignored, Refused as Away}
 use Rattle.effects.specs.declared.Answer.{Answer}
-use Rattle.effects.specs.declared.Answer.the-variants.{Taken, Refused as Declined}
+use Rattle.effects.specs.declared.Answer.the-variants.{Taken, Ignored as Overlooked, Refused as Declined}
 use Rattle.effects.proofs.KeptLaws.{away-of}
 use Rattle.monitor.specs.Event.{turnOf, EventPromise}
 use Rattle.monitor.specs.Evening.{codes, Outcome, joined, goOn, callsOf, standsBy}
-use Rattle.monitor.specs.Given.{StandRow, standOrder, opening, state-past, held-past, EventRow, eventOrder, standing, event-past, operation-3, next-past}
-use Rattle.monitor.specs.Given.{memory-full, output-short, nextRead, operationRead, RefusedAt}
+use Rattle.monitor.specs.Given.{StandRow, standOrder, opening, state-past, held-past, operation-3, next-past, memory-full, output-short}
+use Rattle.monitor.specs.Given.{EventRow, eventOrder, standing, reading, nextRead, operationRead, RefusedAt}
+use Rattle.monitor.specs.Known.{known, remarks}
 use Rattle.monitor.proofs.CallsLaws.{later, calls-more, kept-by-turn, calls-append}
-use Rattle.monitor.proofs.GivenLaws.{stand-within, stand-rows, event-within, refused-when, taken-when}
+use Rattle.monitor.proofs.GivenLaws.{stand-within, stand-rows, event-within, refused-when, taken-when, event-ignores}
 
 -- the calls up to a refusal, and then it
 abbrev pub stopped : Outcome → Refusal → Outcome
-stopped x r = record { taken = x .taken; released = x .released; run = x .run; memory = x .memory; rest = x .rest; verdict = Refused r }
+stopped x r =
+    record {
+      taken = x .taken;
+      released = x .released;
+      ignored = x .ignored;
+      run = x .run;
+      memory = x .memory;
+      rest = x .rest;
+      verdict = Refused r;
+    }
 
 -- a log with an event in it is not the empty one
 pub some-none : {e : ℕ} {es : List ℕ} → e ∷ es ≡ [] → ⊥
@@ -63,8 +75,19 @@ module _ (sheet : List ℕ) where
         event = e;
         after = es;
         whole = refl;
-        all-taken = refl;
+        none-refused = refl;
         refused = refused-when sheet run (eventNo e) memory output x .0 (t ∙ ap Away s);
+      }
+  found-by run e es memory output x go Overlooked memory′ output′ p q =
+      let R = go run memory′ output′ q in
+      let m = calls-more sheet run e (R .before) memory output Overlooked memory′ output′ p in
+      record {
+        before = e ∷ R .before;
+        event = R .event;
+        after = R .after;
+        whole = ap (λ (l : List ℕ). e ∷ l) (R .whole);
+        none-refused = ap (λ (y : Outcome). y .verdict) m ∙ R .none-refused;
+        refused = rw m (R .refused);
       }
   found-by run e es memory output x go (Taken o next n) memory′ output′ p q =
       let R = go next memory′ (drop n output′) q in
@@ -74,7 +97,7 @@ module _ (sheet : List ℕ) where
         event = R .event;
         after = R .after;
         whole = ap (λ (l : List ℕ). e ∷ l) (R .whole);
-        all-taken = ap (λ (y : Outcome). y .verdict) m ∙ R .all-taken;
+        none-refused = ap (λ (y : Outcome). y .verdict) m ∙ R .none-refused;
         refused = rw m (R .refused);
       }
 
@@ -92,32 +115,56 @@ module _ (sheet : List ℕ) where
       let left = callsOf sheet run (R .before) memory output in
       let p = refused-call (left .run) (R .event) (left .memory) (left .rest) x (R .refused) in
       ap (λ (l : List ℕ). callsOf sheet run l memory output) (R .whole)
-      ∙ calls-append sheet (R .before) (R .event ∷ R .after) run memory output (R .all-taken)
-      ∙ ap (joined (left .taken) (left .released))
+      ∙ calls-append sheet (R .before) (R .event ∷ R .after) run memory output (R .none-refused)
+      ∙ ap (joined (left .taken) (left .released) (left .ignored))
       (calls-more sheet (left .run) (R .event) (R .after) (left .memory) (left .rest) (Declined x) (left .memory) (left .rest) p)
-      ∙ rw (append-nil (left .taken), append-nil (left .released))
+      ∙ rw (append-nil (left .taken), append-nil (left .released), append-nil (left .ignored))
 
-  -- where no event is refused, all of the log is taken
-  all-by : (e : ℕ) (es : List ℕ) (run : Run)
-      → ((next : Run) (left rest : List ℕ) → callsOf sheet next es left rest .verdict ≡ Sound → codes (callsOf sheet next es left rest .taken) ≡ es)
-      → (r : Answer) (memory′ output′ : List ℕ) → let x = goOn r e run memory′ output′ (later sheet es) in x .verdict ≡ Sound → codes (x .taken) ≡ e ∷ es
-  all-by e es run go (Declined y) memory′ output′ p = not-both p refl
-  all-by e es run go (Taken o next n) memory′ output′ p = ap (λ (l : List ℕ). e ∷ l) (go next memory′ (drop n output′) p)
+  abbrev K : ℕ
+  K = headIn sheet .events
 
-  pub all-taken : (log : List ℕ) (run : Run) (memory output : List ℕ) → callsOf sheet run log memory output .verdict ≡ Sound
-      → codes (callsOf sheet run log memory output .taken) ≡ log
-  unfolding callsOf
-  all-taken [] run memory output p = refl
-  all-taken (e ∷ es) run memory output p =
-      let t = turnOf sheet run (eventNo e) memory output in
-      all-by e es run (λ next left rest q. all-taken es next left rest q)
-      (answerIn t (run .held)) (memoryIn t (run .held) e memory) (outputIn t (run .held) e memory output) p
+  -- an event that is taken is under K
+  pub taken-under : {run : Run} {e : ℕ} {memory output : List ℕ} {o : Operation} {next : Run} {n : ℕ} {memory′ output′ : List ℕ}
+      → EventPromise sheet run (eventNo e) memory output (Taken o next n) memory′ output′ → e < K
+  taken-under {run} {e} {memory} {output} {o} {next} {n} p = by _ refl (p .answer)
+    where
+      by : (t : Turn) → turnOf sheet run (eventNo e) memory output ≡ t → Taken o next n ≡ answerIn t (run .held) → e < K
+      by (Away y) q a = absurd (let z : _≡_ {A = ℕ} 0 1 = cc in omega arith)
+      by Ignored q a = absurd (let z : _≡_ {A = ℕ} 0 1 = cc in omega arith)
+      by (Move o′ s) q a = taken-when sheet run (eventNo e) memory output o′ s .0 q .1
+
+  -- where no event is refused, all of the log is taken but what is not under K, and that is ignored
+  abbrev All : Outcome → List ℕ → Type 0
+  All x log = (codes (x .taken) ≡ known K log) × (x .ignored ≡ remarks K log)
+
+  all-by : (e : ℕ) (es : List ℕ) (run : Run) (memory output : List ℕ)
+      → ((next : Run) (left rest : List ℕ) → callsOf sheet next es left rest .verdict ≡ Sound → All (callsOf sheet next es left rest) es)
+      → (r : Answer) (memory′ output′ : List ℕ) → EventPromise sheet run (eventNo e) memory output r memory′ output′
+      → let x = goOn r e run memory′ output′ (later sheet es) in x .verdict ≡ Sound → All x (e ∷ es)
+  unfolding known remarks
+  all-by e es run memory output go (Declined y) memory′ output′ p v = not-both v refl
+  all-by e es run memory output go Overlooked memory′ output′ p v =
+      let k = le-ltb _ _ (event-ignores sheet run (eventNo e) memory output p .exactly .0 refl .1) in
+      let i = go run memory′ output′ v in
+      (rw k (i .0), rw k (ap (λ (l : List ℕ). e ∷ l) (i .1)))
+  all-by e es run memory output go (Taken o next n) memory′ output′ p v =
+      let k = lt-ltb _ _ (taken-under p) in
+      let i = go next memory′ (drop n output′) v in
+      (rw k (ap (λ (l : List ℕ). e ∷ l) (i .0)), rw k (i .1))
+
+  pub all-passed : (log : List ℕ) (run : Run) (memory output : List ℕ) → callsOf sheet run log memory output .verdict ≡ Sound
+      → All (callsOf sheet run log memory output) log
+  unfolding callsOf known remarks
+  all-passed [] run memory output p = (refl, refl)
+  all-passed (e ∷ es) run memory output p =
+      all-by e es run memory output (λ next left rest q. all-passed es next left rest q) _ _ _ (kept-by-turn sheet run e memory output) p
 
   -- after an event that is taken the run is one that 11 and 12 do not refuse
-  module _ (run : Run) (e : ℕ) (memory output : List ℕ) (none : NoRow (EventRow sheet run (eventNo e) (length memory) (length output))) where
+  module _ (run : Run) (e : ℕ) (memory output : List ℕ) (none : NoRow (EventRow sheet run (eventNo e) (length memory) (length output)))
+      (under : e < K) where
     stand-next : (next : Run) (room : ℕ) → nextRead sheet run (eventNo e) ≡ next .state → (room < next .held → ⊥) → NoRow (StandRow sheet next room)
     stand-next next room s held n x (opening b) = none n x (standing (opening b))
-    stand-next next room s held n x (state-past a) = none _ _ (next-past (omega (arith, a, ap (λ (q : StateNo). q .0) s)))
+    stand-next next room s held n x (state-past a) = none _ _ (reading under (next-past (omega (arith, a, ap (λ (q : StateNo). q .0) s))))
     stand-next next room s held n x (held-past a) = held a
 
     stand-by : (o : Operation) (t : StateNo) → operationRead sheet run (eventNo e) ≡ o → nextRead sheet run (eventNo e) ≡ t
@@ -129,24 +176,32 @@ module _ (sheet : List ℕ) where
     stand-by Store t q s b next n a =
         let h : next ≡ record { state = t; held = run .held + 1 } = cc in
         let long : length (set memory (run .held) e) ≡ length memory = simp length-set in
-        rw h (stand-next (record { state = t; held = run .held + 1 }) _ s (λ l. none _ _ (memory-full q (omega (arith, l, long)))))
+        rw h (stand-next (record { state = t; held = run .held + 1 }) _ s (λ l. none _ _ (reading under (memory-full q (omega (arith, l, long))))))
     stand-by Dump t q s b next n a =
         let h : next ≡ record { state = t; held = 0 } = cc in
         rw h (stand-next (record { state = t; held = 0 }) (length memory) s (λ l. omega (arith, l)))
 
-  taken-stands : (run : Run) (e : ℕ) (memory output : List ℕ) (o : Operation) (next : Run) (n : ℕ) (memory′ output′ : List ℕ)
+  pub taken-stands : (run : Run) (e : ℕ) (memory output : List ℕ) (o : Operation) (next : Run) (n : ℕ) (memory′ output′ : List ℕ)
       → EventPromise sheet run (eventNo e) memory output (Taken o next n) memory′ output′ → standsBy (openedOf sheet) next (length memory′) ≡ Sound
   taken-stands run e memory output o next n memory′ output′ p = by _ refl (p .answer) (p .memory-after)
     where
       by : (t : Turn) → turnOf sheet run (eventNo e) memory output ≡ t → Taken o next n ≡ answerIn t (run .held) → memory′ ≡ memoryIn t (run .held) e memory
           → standsBy (openedOf sheet) next (length memory′) ≡ Sound
       by (Away y) q a m = absurd (let z : _≡_ {A = ℕ} 0 1 = cc in omega arith)
+      by Ignored q a m = absurd (let z : _≡_ {A = ℕ} 0 1 = cc in omega arith)
       by (Move o′ t) q a m =
           let w = taken-when sheet run (eventNo e) memory output o′ t .0 q in
           sound-exactly (stand-within sheet next (length memory′)) (stand-rows sheet next (length memory′)) .1
-          (rw m (stand-by run e memory output (w .0) o′ t (w .1) (w .2) o next n a))
+          (rw m (stand-by run e memory output (w .0) (w .1) o′ t (w .2) (w .3) o next n a))
 
-  -- so after a log with an event in it, all taken, it is
+  -- and so is the run of an event that is ignored
+  pub ignored-stands : (run : Run) (e : ℕ) (memory output memory′ output′ : List ℕ)
+      → EventPromise sheet run (eventNo e) memory output Overlooked memory′ output′ → standsBy (openedOf sheet) run (length memory) ≡ Sound
+  ignored-stands run e memory output memory′ output′ p =
+      sound-exactly (stand-within sheet run (length memory)) (stand-rows sheet run (length memory)) .1
+      (event-ignores sheet run (eventNo e) memory output p .exactly .0 refl .0)
+
+  -- so after a log with an event in it, none refused, it is
   abbrev pub Stands : Outcome → Type 0
   Stands x = x .verdict ≡ Sound → standsBy (openedOf sheet) (x .run) (length (x .memory)) ≡ Sound
 
@@ -155,6 +210,10 @@ module _ (sheet : List ℕ) where
       → (r : Answer) (memory′ output′ : List ℕ) → EventPromise sheet run (eventNo e) memory output r memory′ output′
       → Stands (goOn r e run memory′ output′ (later sheet es))
   stand-on-by e es run memory output go (Declined y) memory′ output′ p q = not-both q refl
+  stand-on-by e es run memory output go Overlooked memory′ output′ p q =
+      let i = event-ignores sheet run (eventNo e) memory output p in
+      let s : standsBy (openedOf sheet) run (length memory′) ≡ Sound = rw (i .memory-kept refl) (ignored-stands run e memory output memory′ output′ p) in
+      go run memory′ output′ s q
   stand-on-by e es run memory output go (Taken o next n) memory′ output′ p q =
       go next memory′ (drop n output′) (taken-stands run e memory output o next n memory′ output′ p) q
 
@@ -174,11 +233,10 @@ module _ (sheet : List ℕ) where
   standing-row : {run : Run} {e room space n : ℕ} {x : Refusal} → EventRow sheet run (eventNo e) room space n x → among n standOrder ≡ true
       → StandRow sheet run room n x
   standing-row (standing r) q = r
-  standing-row (event-past a) q = clash q refl
-  standing-row (operation-3 a) q = clash q refl
-  standing-row (next-past a) q = clash q refl
-  standing-row (memory-full o a) q = clash q refl
-  standing-row (output-short o a) q = clash q refl
+  standing-row (reading k (operation-3 a)) q = clash q refl
+  standing-row (reading k (next-past a)) q = clash q refl
+  standing-row (reading k (memory-full o a)) q = clash q refl
+  standing-row (reading k (output-short o a)) q = clash q refl
 
   -- no event but the first is refused with one of these
   pub first-only : (run : Run) (memory output : List ℕ) (x : Refusal) → among (toldOf x .number) standOrder ≡ true → (before : List ℕ) (event : ℕ)

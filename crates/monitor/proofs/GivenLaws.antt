@@ -1,5 +1,5 @@
--- Each refusal of an event is given exactly when its row of the table holds and no earlier row does, and an event is taken exactly when
--- no row holds; a refused event changes nothing. Assumes nothing.
+-- Each refusal of an event is given exactly when its row of the table holds and no earlier row does; where no row holds, an event is taken exactly when it is
+-- under K, and else ignored; a refused or ignored event changes nothing. Assumes nothing.
 use Prim.Native.Nat.{ℕ, _/_, _%_, _≤_, _<_}
 use native.Mathlib.Omega.{arith}
 use mathlib.Core.Path.{_≡_, refl, sym, _∙_}
@@ -15,10 +15,11 @@ use Rattle.rule.specs.declared.EventNo.{EventNo}
 use Rattle.rule.specs.declared.Operation.{Operation}
 use Rattle.rule.specs.declared.Operation.the-variants.{Halt, Store, Dump}
 use Rattle.rule.specs.declared.Refusal.{Refusal}
-use Rattle.rule.specs.declared.Refusal.the-variants.{Sheet as NoSheet, Run as BadRun, Code, Cell, Memory, Room}
+use Rattle.rule.specs.declared.Refusal.the-variants.{Sheet as NoSheet, Run as BadRun, Cell, Memory, Room}
 use Rattle.rule.specs.declared.Verdict.{Verdict}
 use Rattle.rule.specs.declared.Verdict.the-variants.{Sound, Refused as Unsound}
-use Rattle.rule.proofs.BoolLaws.{Says, clash, eq-says, le-says, lt-says, and-says, or-says}
+use Rattle.rule.proofs.BoolLaws.{Says, clash, eq-says, le-says, lt-says, and-says, or-says, fails-say, le-fails}
+use borrow.Author.Tests.{le-leb, lt-leb, leb-true, leb-false}
 use Rattle.rule.proofs.RefusalLaws.{not-both}
 use Rattle.rule.proofs.TableLaws.{Within, Decides, Answers, decided, end, then, sound-exactly, numbers}
 use Rattle.sheet.specs.Given.{BadSheet}
@@ -29,35 +30,39 @@ use Rattle.sheet.proofs.OpeningLaws.{shut-says}
 use Rattle.effects.specs.Effects.{roomTurn, answerIn, answerTold, memoryIn, outputIn}
 use Rattle.effects.specs.declared.Run.{Run}
 use Rattle.effects.specs.declared.Turn.{Turn}
-use Rattle.effects.specs.declared.Turn.the-variants.{Move, Refused}
+use Rattle.effects.specs.declared.Turn.the-variants.{Move, Ignored, Refused}
 use Rattle.effects.specs.declared.Answer.{Answer}
+use Rattle.effects.specs.declared.Answer.the-variants.{Ignored as Overlooked}
+use Rattle.effects.proofs.KeptLaws.{ignored-of}
 use Rattle.monitor.specs.Event.{unfit, cellTurn, lookOf, turnBy, turnOf, EventPromise}
 use Rattle.monitor.specs.Evening.{standsBy}
 use Rattle.monitor.specs.Given.{cellRead, operationRead, nextRead, bad-sheet, standOrder, StandRow, opening, state-past, held-past}
-use Rattle.monitor.specs.Given.{eventOrder, EventRow, standing, event-past, operation-3, next-past, memory-full, output-short}
+use Rattle.monitor.specs.Given.{operation-3, next-past, memory-full, output-short, eventOrder, EventRow, standing, reading, Ignores}
 
 -- what a turn refuses
 abbrev saying : Turn → Verdict
 saying (Refused x) = Unsound x
+saying Ignored = Sound
 saying (Move o s) = Sound
 
 saying-refused : (t : Turn) (x : Refusal) → (t ≡ Refused x) ↔ (saying t ≡ Unsound x)
 saying-refused (Refused y) x = (λ p. cc, λ p. cc)
+saying-refused Ignored x = (λ p. absurd (let z : _≡_ {A = ℕ} 0 1 = cc in omega arith), not-both refl)
 saying-refused (Move o s) x = (λ p. absurd (let z : _≡_ {A = ℕ} 0 1 = cc in omega arith), not-both refl)
 
--- of the rows with these numbers the turn refuses by the first that holds, and else it moves so
-record Turns (T : Table) (order : List ℕ) (o : Operation) (s : StateNo) (t : Turn) : Type 0 where
+-- of the rows with these numbers the turn refuses by the first that holds, and else it comes to this
+record Turns (T : Table) (order : List ℕ) (s t : Turn) : Type 0 where
   rows : Answers T order (saying t)
-  moves : saying t ≡ Sound → t ≡ Move o s
+  comes : saying t ≡ Sound → t ≡ s
 
-module _ {T : Table} {o : Operation} {s : StateNo} where
+module _ {T : Table} {s : Turn} where
   test : (n : ℕ) (x : Refusal) {A : Type 0} {b : Bool} {l : List ℕ} {t : Turn} → Says b A → (A → T n x) → ((y : Refusal) → T n y → (x ≡ y) × A)
-      → Turns T l o s t → Turns T (n ∷ l) o s (cond b (Refused x) t)
+      → Turns T l s t → Turns T (n ∷ l) s (cond b (Refused x) t)
   test n x {b = b} {l = l} {t = t} says to from r = by b (decided T n says to from)
     where
-      by : (b : Bool) → Decides T n (refuseIf b x) → Turns T (n ∷ l) o s (cond b (Refused x) t)
-      by true iff = record { rows = then {w = Sound} (Unsound x) iff (λ p. not-both p refl); moves = λ p. not-both p refl }
-      by false iff = record { rows = then Sound iff (λ _. r .rows); moves = r .moves }
+      by : (b : Bool) → Decides T n (refuseIf b x) → Turns T (n ∷ l) s (cond b (Refused x) t)
+      by true iff = record { rows = then {w = Sound} (Unsound x) iff (λ p. not-both p refl); comes = λ p. not-both p refl }
+      by false iff = record { rows = then Sound iff (λ _. r .rows); comes = r .comes }
 
 abbrev is-store : Operation → Bool
 is-store Halt = false
@@ -124,14 +129,16 @@ module _ (sheet : List ℕ) (run : Run) (e : EventNo) (memory output : List ℕ)
   event-within n x (standing (opening (bad-sheet a))) = record { number = refl; listed = refl }
   event-within n x (standing (state-past a)) = record { number = refl; listed = refl }
   event-within n x (standing (held-past a)) = record { number = refl; listed = refl }
-  event-within n x (event-past a) = record { number = refl; listed = refl }
-  event-within n x (operation-3 a) = record { number = refl; listed = refl }
-  event-within n x (next-past a) = record { number = refl; listed = refl }
-  event-within n x (memory-full q a) = record { number = refl; listed = refl }
-  event-within n x (output-short q a) = record { number = refl; listed = refl }
+  event-within n x (reading k (operation-3 a)) = record { number = refl; listed = refl }
+  event-within n x (reading k (next-past a)) = record { number = refl; listed = refl }
+  event-within n x (reading k (memory-full q a)) = record { number = refl; listed = refl }
+  event-within n x (reading k (output-short q a)) = record { number = refl; listed = refl }
 
   abbrev N : ℕ
   N = headIn sheet .states
+
+  abbrev K : ℕ
+  K = headIn sheet .events
 
   abbrev cell : ℕ
   cell = cellRead sheet run e
@@ -139,22 +146,27 @@ module _ (sheet : List ℕ) (run : Run) (e : EventNo) (memory output : List ℕ)
   abbrev o : Operation
   o = operationRead sheet run e
 
+  -- an event that no row refuses: ignored, or moved
+  abbrev unrefused : (past : Bool) → Operation → StateNo → Turn
+  unrefused past o n = cond past Ignored (Move o n)
+
   -- the tests in order
   abbrev tested : Turn
   tested =
       cond (not (opens sheet)) (Refused NoSheet)
       (cond (leb N (run .state .0) || ltb (length memory) (run .held)) (Refused BadRun)
-      (cond (leb (headIn sheet .events) (e .0)) (Refused Code)
-      (cond (eqb (cell / 64) 3 || leb N (cell % 64)) (Refused (Cell (run .state) e))
-      (cond (is-store o && leb (length memory) (run .held)) (Refused Memory)
-      (cond (is-dump o && leb (length output) (run .held)) (Refused Room) (Move o (nextRead sheet run e)))))))
+      (cond (not (leb K (e .0)) && (eqb (cell / 64) 3 || leb N (cell % 64))) (Refused (Cell (run .state) e))
+      (cond (not (leb K (e .0)) && (is-store o && leb (length memory) (run .held))) (Refused Memory)
+      (cond (not (leb K (e .0)) && (is-dump o && leb (length output) (run .held))) (Refused Room)
+      (unrefused (leb K (e .0)) o (nextRead sheet run e))))))
 
   -- those for room come last
   room-last : (b c d : Bool) (o : Operation) (n : StateNo)
-      → roomTurn (cond b (Refused BadRun) (cond c (Refused Code) (cond d (Refused (Cell (run .state) e)) (Move o n))))
+      → roomTurn (cond b (Refused BadRun) (cond c Ignored (cond d (Refused (Cell (run .state) e)) (Move o n))))
       (run .held) (length memory) (length output)
-      ≡ cond b (Refused BadRun) (cond c (Refused Code) (cond d (Refused (Cell (run .state) e))
-      (cond (is-store o && leb (length memory) (run .held)) (Refused Memory) (cond (is-dump o && leb (length output) (run .held)) (Refused Room) (Move o n)))))
+      ≡ cond b (Refused BadRun) (cond (not c && d) (Refused (Cell (run .state) e))
+      (cond (not c && (is-store o && leb (length memory) (run .held))) (Refused Memory)
+      (cond (not c && (is-dump o && leb (length output) (run .held))) (Refused Room) (unrefused c o n))))
   room-last true c d o n = refl
   room-last false true d o n = refl
   room-last false false true o n = refl
@@ -166,8 +178,7 @@ module _ (sheet : List ℕ) (run : Run) (e : EventNo) (memory output : List ℕ)
   unfolding openedOf lookOf cellTurn
   turn-tested =
       by (opens sheet)
-      ∙ rw (room-last (leb N (run .state .0) || ltb (length memory) (run .held)) (leb (headIn sheet .events) (e .0))
-      (eqb (cell / 64) 3 || leb N (cell % 64)) o _)
+      ∙ rw (room-last (leb N (run .state .0) || ltb (length memory) (run .held)) (leb K (e .0)) (eqb (cell / 64) 3 || leb N (cell % 64)) o _)
     where
       by : (a : Bool) → turnBy (cond a (Sheet (headIn sheet)) Shut) sheet run e memory output
           ≡ cond (not a) (Refused NoSheet) (roomTurn (lookOf (headIn sheet) sheet run e (length memory)) (run .held) (length memory) (length output))
@@ -180,47 +191,88 @@ module _ (sheet : List ℕ) (run : Run) (e : EventNo) (memory output : List ℕ)
   by-12 : (y : Refusal) → T 12 y → (BadRun ≡ y) × ((N ≤ run .state .0) ⊎ (length memory < run .held))
   by-12 y (standing r) = stand-12 y r
 
-  by-13 : (y : Refusal) → T 13 y → (Code ≡ y) × (headIn sheet .events ≤ e .0)
-  by-13 y (standing r) = past-stand r refl
-  by-13 y (event-past a) = (refl, a)
-
-  by-14 : (y : Refusal) → T 14 y → (Cell (run .state) e ≡ y) × ((cell / 64 ≡ 3) ⊎ (N ≤ cell % 64))
+  by-14 : (y : Refusal) → T 14 y → (Cell (run .state) e ≡ y) × ((e .0 < K) × ((cell / 64 ≡ 3) ⊎ (N ≤ cell % 64)))
   by-14 y (standing r) = past-stand r refl
-  by-14 y (operation-3 a) = (refl, inl a)
-  by-14 y (next-past a) = (refl, inr a)
+  by-14 y (reading k (operation-3 a)) = (refl, (k, inl a))
+  by-14 y (reading k (next-past a)) = (refl, (k, inr a))
 
-  by-15 : (y : Refusal) → T 15 y → (Memory ≡ y) × ((o ≡ Store) × (length memory ≤ run .held))
+  by-15 : (y : Refusal) → T 15 y → (Memory ≡ y) × ((e .0 < K) × ((o ≡ Store) × (length memory ≤ run .held)))
   by-15 y (standing r) = past-stand r refl
-  by-15 y (memory-full q a) = (refl, (q, a))
+  by-15 y (reading k (memory-full q a)) = (refl, (k, (q, a)))
 
-  by-16 : (y : Refusal) → T 16 y → (Room ≡ y) × ((o ≡ Dump) × (length output ≤ run .held))
+  by-16 : (y : Refusal) → T 16 y → (Room ≡ y) × ((e .0 < K) × ((o ≡ Dump) × (length output ≤ run .held)))
   by-16 y (standing r) = past-stand r refl
-  by-16 y (output-short q a) = (refl, (q, omega arith))
+  by-16 y (reading k (output-short q a)) = (refl, (k, (q, omega arith)))
 
-  turns : Turns T eventOrder o (nextRead sheet run e) (turnOf sheet run e memory output)
+  under : Says (not (leb K (e .0))) (e .0 < K)
+  under = fails-say (le-fails K (e .0))
+
+  over : (past : Bool) (o : Operation) (n : StateNo) → Turns T [] (unrefused past o n) (unrefused past o n)
+  over true o n = record { rows = end; comes = λ p. refl }
+  over false o n = record { rows = end; comes = λ p. refl }
+
+  turns : Turns T eventOrder (unrefused (leb K (e .0)) o (nextRead sheet run e)) (turnOf sheet run e memory output)
   turns =
       rw turn-tested
       (test 11 NoSheet (shut-says sheet) (λ a. standing (opening (bad-sheet a))) by-11
       (test 12 BadRun (or-says (le-says N (run .state .0)) (lt-says (length memory) (run .held))) (λ a. standing (past a)) by-12
-      (test 13 Code (le-says (headIn sheet .events) (e .0)) event-past by-13
-      (test 14 (Cell (run .state) e) (or-says (eq-says (cell / 64) 3) (le-says N (cell % 64))) (⊎-elim operation-3 next-past) by-14
-      (test 15 Memory (and-says (store-says o) (le-says (length memory) (run .held))) (λ a. memory-full (a .0) (a .1)) by-15
-      (test 16 Room (and-says (dump-says o) (le-says (length output) (run .held))) (λ a. output-short (a .0) (omega (arith, a .1))) by-16
-      (record { rows = end; moves = λ p. refl })))))))
+      (test 14 (Cell (run .state) e) (and-says under (or-says (eq-says (cell / 64) 3) (le-says N (cell % 64))))
+      (λ a. reading (a .0) (⊎-elim operation-3 next-past (a .1))) by-14
+      (test 15 Memory (and-says under (and-says (store-says o) (le-says (length memory) (run .held))))
+      (λ a. reading (a .0) (memory-full (a .1 .0) (a .1 .1))) by-15
+      (test 16 Room (and-says under (and-says (dump-says o) (le-says (length output) (run .held))))
+      (λ a. reading (a .0) (output-short (a .1 .0) (omega (arith, a .1 .1)))) by-16
+      (over (leb K (e .0)) o (nextRead sheet run e)))))))
 
   -- each refusal is given exactly when its row holds and no earlier one does
   pub refused-when : (x : Refusal) → (turnOf sheet run e memory output ≡ Refused x) ↔ Given T x eventOrder
   refused-when x = Iff·trans (saying-refused (turnOf sheet run e memory output) x) (turns .rows .gives x)
 
-  -- an event is taken exactly when no row holds, with the operation and the next state of the cell that is read
-  pub taken-when : (a : Operation) (t : StateNo) → (turnOf sheet run e memory output ≡ Move a t) ↔ (NoRow T × (o ≡ a) × (nextRead sheet run e ≡ t))
+  -- where no row holds, an event under K is taken, with the operation and the next state of the cell that is read, and any other is ignored
+  comes-to : (t : Turn) → turnOf sheet run e memory output ≡ t → saying t ≡ Sound → NoRow T × (unrefused (leb K (e .0)) o (nextRead sheet run e) ≡ t)
+  comes-to t p q =
+      let s : saying (turnOf sheet run e memory output) ≡ Sound = rw p q in
+      (sound-exactly event-within (turns .rows) .0 s, sym (turns .comes s) ∙ p)
+
+  comes-from : NoRow T → turnOf sheet run e memory output ≡ unrefused (leb K (e .0)) o (nextRead sheet run e)
+  comes-from none = turns .comes (sound-exactly event-within (turns .rows) .1 none)
+
+  pub taken-when : (a : Operation) (t : StateNo)
+      → (turnOf sheet run e memory output ≡ Move a t) ↔ (NoRow T × (e .0 < K) × (o ≡ a) × (nextRead sheet run e ≡ t))
   taken-when a t = (
-    λ p.
-        let s : saying (turnOf sheet run e memory output) ≡ Sound = rw p in
-        let m = sym (turns .moves s) ∙ p in
-        (sound-exactly event-within (turns .rows) .0 s, cc, cc),
-    λ p. turns .moves (sound-exactly event-within (turns .rows) .1 (p .0)) ∙ rw (p .1, p .2),
+    λ p. let c = comes-to (Move a t) p refl in let m = to (leb K (e .0)) refl (c .1) in (c .0, m .0, m .1, m .2),
+    λ p. comes-from (p .0) ∙ rw (lt-leb _ _ (p .1), p .2, p .3),
   )
+    where
+      to : (b : Bool) → leb K (e .0) ≡ b → unrefused b o (nextRead sheet run e) ≡ Move a t → (e .0 < K) × (o ≡ a) × (nextRead sheet run e ≡ t)
+      to true q m = absurd (let z : _≡_ {A = ℕ} 0 1 = cc in omega arith)
+      to false q m = (leb-false _ _ q, cc, cc)
+
+  -- with no cell read, the only rows are those of the run
+  unread : K ≤ e .0 → NoRow (StandRow sheet run (length memory)) → NoRow T
+  unread k none n x (standing r) = none n x r
+  unread k none n x (reading u r) = omega (arith, k, u)
+
+  pub ignored-when : (turnOf sheet run e memory output ≡ Ignored) ↔ (NoRow (StandRow sheet run (length memory)) × (K ≤ e .0))
+  ignored-when = (
+    λ p. let c = comes-to Ignored p refl in (λ n x r. c .0 n x (standing r), to (leb K (e .0)) refl (c .1)),
+    λ p. comes-from (unread (p .1) (p .0)) ∙ rw (le-leb _ _ (p .1)),
+  )
+    where
+      to : (b : Bool) → leb K (e .0) ≡ b → unrefused b o (nextRead sheet run e) ≡ Ignored → K ≤ e .0
+      to true q m = leb-true _ _ q
+      to false q m = absurd (let z : _≡_ {A = ℕ} 0 1 = cc in omega arith)
+
+  pub event-ignores : {r : Answer} {memory′ output′ : List ℕ} → EventPromise sheet run e memory output r memory′ output′
+      → Ignores sheet run e memory output r memory′ output′
+  event-ignores {r} p =
+      let turn = turnOf sheet run e memory output in
+      let from : r ≡ Overlooked → turn ≡ Ignored = λ q. ignored-of turn (run .held) (sym q ∙ p .answer) in
+      record {
+        exactly = (λ q. ignored-when .0 (from q), λ w. p .answer ∙ rw (ignored-when .1 w));
+        memory-kept = λ q. p .memory-after ∙ rw (from q);
+        output-kept = λ q. p .output-after ∙ rw (from q);
+      }
 
   -- a refused event has one of the numbers of the order
   pub turn-refuses : (x : Refusal) → turnOf sheet run e memory output ≡ Refused x → Numbered eventOrder x
@@ -234,6 +286,7 @@ module _ (sheet : List ℕ) (run : Run) (e : EventNo) (memory output : List ℕ)
       by : (t : Turn) → turnOf sheet run e memory output ≡ t → r ≡ answerIn t (run .held) → memory′ ≡ memoryIn t (run .held) (e .0) memory
           → output′ ≡ outputIn t (run .held) (e .0) memory output → Ends T eventOrder (answerTold r) ((memory′ ≡ memory) × (output′ ≡ output))
       by (Refused x) q a m o = rw a (record { tells = refused (refused-when x .0 q); rest = λ n. (m, o) })
+      by Ignored q a m o = rw a (record { tells = done (comes-to Ignored q refl .0); rest = λ n. absurd (n refl) })
       by (Move Halt s) q a m o = rw a (record { tells = done (taken-when Halt s .0 q .0); rest = λ n. absurd (n refl) })
       by (Move Store s) q a m o = rw a (record { tells = done (taken-when Store s .0 q .0); rest = λ n. absurd (n refl) })
       by (Move Dump s) q a m o = rw a (record { tells = done (taken-when Dump s .0 q .0); rest = λ n. absurd (n refl) })

@@ -4,6 +4,7 @@ pub mod EveningLaws
 pub mod FirstLaws
 pub mod EveningGivenLaws
 pub mod TwoLaws
+pub mod KnownLaws
 pub mod FreshLaws
 pub mod GivenLaws
 pub mod OneAnswer

@@ -1,10 +1,10 @@
 -- An evening is its single calls and nothing else; two evenings, the second on from the first, are one.
 -- Assumes nothing.
-use Prim.Native.Nat.{ℕ, _+_, _≤_, _<_}
+use Prim.Native.Nat.{ℕ, _≤_, _<_}
 use native.Mathlib.Omega.{arith}
 use native.Mathlib.Decide.{decLt}
 use mathlib.Core.Path.{_≡_, sym, ap, _∙_}
-use mathlib.Core.List.{List, [], _∷_, _++_, append-assoc}
+use mathlib.Core.List.{List, _∷_, _++_, append-assoc}
 use mathlib.Core.Logic.{_↔_}
 use lib.ListN.{length, take, drop, length-append}
 use lib.Seq.{take-append-seam, drop-append-seam}
@@ -56,7 +56,7 @@ module _ (sheet : List ℕ) where
 
     both : eveningOf sheet run a memory output .verdict ≡ Sound
         → (eveningOf sheet run a memory output ≡ first) × (eveningOf sheet (first .run) b (first .memory) (first .rest) ≡ second)
-        × (eveningOf sheet run (a ++ b) memory output ≡ joined (first .taken) (first .released) second)
+        × (eveningOf sheet run (a ++ b) memory output ≡ joined (first .taken) (first .released) (first .ignored) second)
     both p =
         let s = sound-stands run a memory output p in
         let one = stands-calls run a memory output (omega (arith, fits, length-append a b)) s in
@@ -78,7 +78,13 @@ module _ (sheet : List ℕ) where
         let Q : Reports second s memory₂ output₂ = rw (here, P .memory-after, P .report, w .1) at q in
         rw (w .2)
         (record {
-          report = rw (P .report, Q .report, length-append (first .taken) (second .taken), length-append (first .released) (second .released));
+          report = rw (
+            P .report,
+            Q .report,
+            length-append (first .taken) (second .taken),
+            length-append (first .released) (second .released),
+            length-append (first .ignored) (second .ignored),
+          );
           memory-after = Q .memory-after;
           output-after = rw (there, Q .output-after) (sym (append-assoc (first .released) (second .released) (second .rest)));
         })

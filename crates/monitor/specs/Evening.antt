@@ -19,7 +19,7 @@ use Rattle.sheet.specs.declared.Opened.the-variants.{Sheet, Refused as Shut}
 use Rattle.effects.specs.Effects.{answerIn, memoryIn, outputIn}
 use Rattle.effects.specs.declared.Run.{Run}
 use Rattle.effects.specs.declared.Answer.{Answer}
-use Rattle.effects.specs.declared.Answer.the-variants.{Taken, Refused as Declined}
+use Rattle.effects.specs.declared.Answer.the-variants.{Taken, Ignored, Refused as Declined}
 use Rattle.monitor.specs.Event.{unfit, turnOf, EventPromise}
 use Rattle.monitor.specs.declared.Evening.{Evening}
 
@@ -33,35 +33,40 @@ abbrev pub codes : List Entry → List ℕ
 codes [] = []
 codes (x ∷ xs) = x .code ∷ codes xs
 
--- what calls come to: the events taken, what they released, the run and the memory after them, the output's unwritten rest, the refusal that ended them
+-- what calls come to: the events taken, what they released, the events ignored, the run and the memory after them, the output's unwritten rest, the refusal
+-- that ended them
 pub record Outcome : Type 0 where
   pub taken : List Entry
   pub released : List ℕ
+  pub ignored : List ℕ
   pub run : Run
   pub memory : List ℕ
   pub rest : List ℕ
   pub verdict : Verdict
 
--- no event is taken
+-- no event is taken or ignored
 abbrev pub idle : Run → (memory output : List ℕ) → Verdict → Outcome
-idle run memory output v = record { taken = []; released = []; run = run; memory = memory; rest = output; verdict = v }
+idle run memory output v = record { taken = []; released = []; ignored = []; run = run; memory = memory; rest = output; verdict = v }
 
--- these events and what they released first, and then what the later calls come to
-abbrev pub joined : List Entry → List ℕ → Outcome → Outcome
-joined taken released x =
+-- the events taken, what they released and the events ignored first, and then what the later calls come to
+abbrev pub joined : List Entry → (released ignored : List ℕ) → Outcome → Outcome
+joined taken released ignored x =
     record {
       taken = taken ++ x .taken;
       released = released ++ x .released;
+      ignored = ignored ++ x .ignored;
       run = x .run;
       memory = x .memory;
       rest = x .rest;
       verdict = x .verdict;
     }
 
--- a refused event ends the calls; one that is taken goes before the later calls, which are given the rest of the output
+-- a refused event ends the calls; one that is taken goes before the later calls, which are given the rest of the output; so does one that is ignored, and the
+-- later calls are given what it was given
 abbrev pub goOn : Answer → (e : ℕ) → Run → (memory output : List ℕ) → (Run → (memory rest : List ℕ) → Outcome) → Outcome
 goOn (Declined x) e run memory output later = idle run memory output (Refused x)
-goOn (Taken o next n) e run memory output later = joined (record { code = e; operation = o } ∷ []) (take n output) (later next memory (drop n output))
+goOn Ignored e run memory output later = joined [] [] (e ∷ []) (later run memory output)
+goOn (Taken o next n) e run memory output later = joined (record { code = e; operation = o } ∷ []) (take n output) [] (later next memory (drop n output))
 
 -- the single calls, one after another
 unfoldable pub callsOf : (sheet : List ℕ) → Run → (log memory output : List ℕ) → Outcome
@@ -81,13 +86,14 @@ abbrev pub shortEvening : (sheet : List ℕ) → Run → (log memory output : Li
 shortEvening sheet run [] memory output = idle run memory output (standsBy (openedOf sheet) run (length memory))
 shortEvening sheet run (e ∷ es) memory output = callsOf sheet run (e ∷ es) memory output
 
--- 19: a log over 4,096 events, before 11 and with nothing taken
+-- 19: a log over 4,096 events, ignored ones too, before 11 and with nothing taken
 unfoldable pub eveningOf : (sheet : List ℕ) → Run → (log memory output : List ℕ) → Outcome
 eveningOf sheet run log memory output = cond (ltb 4096 (length log)) (idle run memory output (Refused Log)) (shortEvening sheet run log memory output)
 
--- what is reported of calls: the run, the numbers taken and released, the refusal; and the whole of the memory and the output after them
+-- what is reported of calls: the run, the numbers taken, released and ignored, the refusal; and the whole of the memory and the output after them
 abbrev pub reportOf : Outcome → Evening
-reportOf x = record { run = x .run; taken = length (x .taken); released = length (x .released); verdict = x .verdict }
+reportOf x =
+    record { run = x .run; taken = length (x .taken); released = length (x .released); ignored = length (x .ignored); verdict = x .verdict }
 
 pub record Reports (x : Outcome) (r : Evening) (memory′ output′ : List ℕ) : Type 0 where
   pub report : r ≡ reportOf x
@@ -104,9 +110,12 @@ pub data Calls (sheet : List ℕ) : Run → (log memory output : List ℕ) → O
   refused : {run : Run} {e : ℕ} {es memory output : List ℕ} {x : Refusal} {memory′ output′ : List ℕ}
       → EventPromise sheet run (eventNo e) memory output (Declined x) memory′ output′
       → Calls sheet run (e ∷ es) memory output (idle run memory′ output′ (Refused x))
+  ignored : {run : Run} {e : ℕ} {es memory output : List ℕ} {memory′ output′ : List ℕ} {later : Outcome}
+      → EventPromise sheet run (eventNo e) memory output Ignored memory′ output′ → Calls sheet run es memory′ output′ later
+      → Calls sheet run (e ∷ es) memory output (joined [] [] (e ∷ []) later)
   taken : {run : Run} {e : ℕ} {es memory output : List ℕ} {o : Operation} {next : Run} {n : ℕ} {memory′ output′ : List ℕ} {later : Outcome}
       → EventPromise sheet run (eventNo e) memory output (Taken o next n) memory′ output′ → Calls sheet next es memory′ (drop n output′) later
-      → Calls sheet run (e ∷ es) memory output (joined (record { code = e; operation = o } ∷ []) (take n output′) later)
+      → Calls sheet run (e ∷ es) memory output (joined (record { code = e; operation = o } ∷ []) (take n output′) [] later)
 
 -- what an evening promises is what such calls leave
 pub record SingleCalls (sheet : List ℕ) (run : Run) (log memory output : List ℕ) (r : Evening) (memory′ output′ : List ℕ) : Type 0 where
@@ -116,4 +125,11 @@ pub record SingleCalls (sheet : List ℕ) (run : Run) (log memory output : List 
 
 -- two evenings, the second on from the first, reported as one
 abbrev pub bothOf : Evening → Evening → Evening
-bothOf r s = record { run = s .run; taken = r .taken + s .taken; released = r .released + s .released; verdict = s .verdict }
+bothOf r s =
+    record {
+      run = s .run;
+      taken = r .taken + s .taken;
+      released = r .released + s .released;
+      ignored = r .ignored + s .ignored;
+      verdict = s .verdict;
+    }

@@ -1,4 +1,5 @@
--- What one event comes to: classified once, into a move with its operation or a refusal; the answer, the memory and the output follow from that (Effects).
+-- What one event comes to: classified once, into a move with its operation, ignored, or a refusal; the answer, the memory and the output follow from that
+-- (Effects).
 -- Assumes nothing.
 use Prim.Native.Nat.{ℕ, _/_, _%_}
 use mathlib.Core.Bool.{Bool, cond, _||_}
@@ -7,7 +8,7 @@ use lib.ListN.{length}
 use lib.Dec.{leb, ltb, eqb}
 use Rattle.rule.specs.Drawing.{stateNo}
 use Rattle.rule.specs.declared.EventNo.{EventNo}
-use Rattle.rule.specs.declared.Refusal.the-variants.{Sheet as NoSheet, Run as BadRun, Code, Cell}
+use Rattle.rule.specs.declared.Refusal.the-variants.{Sheet as NoSheet, Run as BadRun, Cell}
 use Rattle.sheet.specs.Layout.{cellIn, operationOf}
 use Rattle.sheet.specs.Opening.{openedOf}
 use Rattle.sheet.specs.declared.Head.{Head}
@@ -16,7 +17,7 @@ use Rattle.sheet.specs.declared.Opened.the-variants.{Sheet, Refused as Shut}
 use Rattle.effects.specs.Effects.{roomTurn, TurnPromise}
 use Rattle.effects.specs.declared.Run.{Run}
 use Rattle.effects.specs.declared.Turn.{Turn}
-use Rattle.effects.specs.declared.Turn.the-variants.{Move, Refused}
+use Rattle.effects.specs.declared.Turn.the-variants.{Move, Ignored, Refused}
 use Rattle.effects.specs.declared.Answer.{Answer}
 
 -- 14: the cell read has operation 3 or next state >= N
@@ -33,11 +34,11 @@ cellAt h sheet run e = cellIn h sheet (run .state .0) (e .0)
 abbrev pub unfit : Head → Run → (room : ℕ) → Bool
 unfit h run room = leb (h .states) (run .state .0) || ltb room (run .held)
 
--- 12; 13: event >= K; then what the cell says
+-- 12; an event from K on is ignored; then what the cell says
 unfoldable pub lookOf : Head → (sheet : List ℕ) → Run → EventNo → (room : ℕ) → Turn
 lookOf h sheet run e room =
     cond (unfit h run room) (Refused BadRun)
-    (cond (leb (h .events) (e .0)) (Refused Code)
+    (cond (leb (h .events) (e .0)) Ignored
     (cellTurn (cellAt h sheet run e) (h .states) run e))
 
 -- what an event comes to on an opened sheet

@@ -1,5 +1,6 @@
-// The monitor: a fresh start, one event (document 01, "What an operation does"), and an evening of events in one call (document 02, M-101).
+// The monitor: a fresh start, one event (document 01, "What an operation does"; document 02, M-104), and an evening of events in one call (M-101).
 ghost use mathlib.Core.Path.{_≡_};
+ghost use Prim.Native.Nat.{_-_, _≤_};
 ghost use Rattle.monitor.specs.Evening.{EveningPromise};
 ghost use Rattle.monitor.specs.Event.{EventPromise};
 ghost use Rattle.monitor.specs.Fresh.{startOf};
@@ -36,7 +37,8 @@ pub fn fresh(sheet: &[u8]) -> Start
     }
 }
 
-// One event: the refusals 11 to 16 in order. A refused sheet ends the call before the event is looked at.
+// One event: the refusals 11, 12 and 14 to 16 in order; after 12 an event of K or more is ignored. A refused sheet ends the call before the event
+// is looked at.
 pub fn event(sheet: &[u8], run: Run, event: EventNo, memory: &mut [u8], output: &mut [u8]) -> Answer
     ensures { λ r. ⌜ EventPromise (now (sheet .entry)) run event (now (memory .entry)) (now (output .entry)) r (now (memory .exit)) (now (output .exit)) ⌝ }
 {
@@ -46,30 +48,53 @@ pub fn event(sheet: &[u8], run: Run, event: EventNo, memory: &mut [u8], output: 
     steps::step(sheet, head, run, event, memory, output)
 }
 
-// What an evening comes to: the run after the events taken, how many were taken and released, and the refusal that ended it, if one did.
+// What an evening comes to: the run after the events taken, how many were taken, released and ignored, and the refusal that ended it, if one did.
 pub struct Evening {
     pub run: Run,
     pub taken: usize,
     pub released: usize,
+    pub ignored: usize,
     pub verdict: Verdict,
 }
 
 impl Evening {
     // Refused with nothing taken.
     fn refused(run: Run, refusal: Refusal) -> Self
-        ensures { λ r. ⌜ r ≡ record { run = run; taken = 0; released = 0; verdict = Verdict.Refused refusal } ⌝ }
+        ensures { λ r. ⌜ r ≡ record { run = run; taken = 0; released = 0; ignored = 0; verdict = Verdict.Refused refusal } ⌝ }
     {
         Self {
             run,
             taken: 0,
             released: 0,
+            ignored: 0,
             verdict: Verdict::Refused(refusal),
+        }
+    }
+
+    // Of the events passed those that were not ignored were taken.
+    pub(crate) fn ended(
+        run: Run,
+        passed: usize,
+        released: usize,
+        ignored: usize,
+        verdict: Verdict,
+    ) -> Self
+        requires { ⌜ ignored ≤ passed ⌝ }
+        ensures { λ r. ⌜ r ≡ record { run = run; taken = passed - ignored; released = released; ignored = ignored; verdict = verdict } ⌝ }
+    {
+        Self {
+            run,
+            taken: passed - ignored,
+            released,
+            ignored,
+            verdict,
         }
     }
 }
 
 // An evening: up to 4,096 events, each release put into the output right after the one before. It ends at the first refusal and keeps what
-// came before it; a halt does not end it. 19 comes first; then 11 and 12, which an empty log gives too; then those of each event.
+// came before it; a halt or an ignored event does not end it. 19 comes first, and counts all events of the log; then 11 and 12, which an empty log gives
+// too; then those of each event.
 pub fn events(sheet: &[u8], run: Run, log: &[u8], memory: &mut [u8], output: &mut [u8]) -> Evening
     ensures { λ r. ⌜ EveningPromise (now (sheet .entry)) run (now (log .entry)) (now (memory .entry)) (now (output .entry))
         r (now (memory .exit)) (now (output .exit)) ⌝ }

@@ -42,7 +42,7 @@ fn read(cell: u8, states: u8, run: Run, event: EventNo) -> Turn
     }
 }
 
-// What the sheet says at the run's state and the event: the refusals 12 to 14. `room` is the memory's length.
+// What the sheet says at the run's state and the event: refusal 12; ignored, from K on; then what the cell says. `room` is the memory's length.
 pub(crate) fn look(sheet: &[u8], head: Head, run: Run, event: EventNo, room: usize) -> Turn
     requires { ⌜ Sheet head ≡ openedOf (now sheet) ⌝ }
     ensures { λ r. ⌜ r ≡ lookOf head (now (sheet .entry)) run event room ⌝ }
@@ -51,7 +51,7 @@ pub(crate) fn look(sheet: &[u8], head: Head, run: Run, event: EventNo, room: usi
         return Turn::Refused(Refusal::Run);
     }
     if head.events <= event.0 {
-        return Turn::Refused(Refusal::Code);
+        return Turn::Ignored;
     }
     let at = place(head.events, run.state, event);
     read(sheet[at], head.states, run, event)
@@ -72,6 +72,7 @@ pub(crate) fn step(
     let turn = look(sheet, head, run, event, memory.len());
     match turn {
         Turn::Refused(refusal) => return Answer::Refused(refusal),
+        Turn::Ignored => return Answer::Ignored,
         Turn::Move(operation, next) => match operation {
             Operation::Halt => return halt(next, run),
             Operation::Store => return store(next, run, event, memory),
@@ -97,14 +98,15 @@ pub(crate) fn each(
         r (now (memory .exit)) (now (output .exit)) ⌝ }
 {
     let mut present = run;
-    let mut taken = 0;
+    let mut passed = 0;
     let mut released = 0;
-    while taken < log.len() {
+    let mut ignored = 0;
+    while passed < log.len() {
         let answer = step(
             sheet,
             head,
             present,
-            EventNo(log[taken]),
+            EventNo(log[passed]),
             memory,
             &mut output[released..],
         );
@@ -116,22 +118,22 @@ pub(crate) fn each(
             } => {
                 present = next;
                 released += more;
-                taken += 1;
+                passed += 1;
+            }
+            Answer::Ignored => {
+                ignored += 1;
+                passed += 1;
             }
             Answer::Refused(refusal) => {
-                return Evening {
-                    run: present,
-                    taken,
+                return Evening::ended(
+                    present,
+                    passed,
                     released,
-                    verdict: Verdict::Refused(refusal),
-                };
+                    ignored,
+                    Verdict::Refused(refusal),
+                );
             }
         }
     }
-    Evening {
-        run: present,
-        taken,
-        released,
-        verdict: Verdict::Sound,
-    }
+    Evening::ended(present, passed, released, ignored, Verdict::Sound)
 }

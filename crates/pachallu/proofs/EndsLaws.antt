@@ -2,12 +2,16 @@
 -- state as it was.
 -- Assumes nothing.
 use Prim.Native.Nat.{ℕ}
+use native.Mathlib.Omega.{arith}
 use mathlib.Core.Path.{_≡_, refl, ap}
 use mathlib.Core.List.{List}
 use lib.ListN.{length}
 use Rattle.rule.specs.Drawing.{stateNo, eventNo}
 use Rattle.rule.specs.Given.{Table, NoRow, Given, done, refused, Ends}
 use Rattle.rule.specs.Refusals.{verdictTold}
+use Rattle.rule.specs.Operations.{markOf}
+use Rattle.rule.specs.declared.Operation.{Operation}
+use Rattle.rule.specs.declared.Operation.the-variants.{Halt, Store, Dump}
 use Rattle.rule.specs.declared.Refusal.{Refusal}
 use Rattle.rule.specs.declared.Verdict.{Verdict}
 use Rattle.rule.specs.declared.Verdict.the-variants.{Sound, Refused as Unsound}
@@ -21,14 +25,14 @@ use Rattle.book.specs.declared.Lookup.the-variants.{Job, Office, Refused as Not
 use Rattle.book.proofs.GivenLaws.{find-sound, find-gives}
 use Rattle.monitor.specs.Event.{EventPromise}
 use Rattle.monitor.specs.Fresh.{startOf}
-use Rattle.monitor.specs.Given.{FreshRow, freshOrder, EventRow, eventOrder, EveningRow, eveningOrder}
+use Rattle.monitor.specs.Given.{FreshRow, freshOrder, EventRow, eventOrder, Ignores, EveningRow, eveningOrder}
 use Rattle.monitor.proofs.FreshLaws.{fresh-ends}
-use Rattle.monitor.proofs.GivenLaws.{event-ends}
+use Rattle.monitor.proofs.GivenLaws.{event-ends, event-ignores}
 use Rattle.monitor.proofs.EveningGivenLaws.{evening-ends}
 use Rattle.effects.specs.Effects.{freshRun}
 use Rattle.effects.specs.declared.Run.{Run}
 use Rattle.effects.specs.declared.Answer.{Answer}
-use Rattle.effects.specs.declared.Answer.the-variants.{Taken, Refused}
+use Rattle.effects.specs.declared.Answer.the-variants.{Taken, Ignored, Refused}
 use Rattle.why.specs.Given.{Asking, whyOrder}
 use Rattle.why.specs.Why.{groundTold}
 use Rattle.why.specs.declared.Ground.{Ground}
@@ -36,7 +40,7 @@ use Rattle.why.specs.declared.Ground.the-variants.{Halted, Held, Released, Refu
 use Rattle.why.proofs.GivenLaws.{why-ends}
 use Rattle.pachallu.specs.Told.{madeOf, PutForC, foundOf, FindForC, startedOf, FreshForC, runOf, answeredOf, EventForC}
 use Rattle.pachallu.specs.Told.{madeTold, foundTold, startedTold, answeredTold, PutKept, FindKept, FreshKept, EventKept}
-use Rattle.pachallu.specs.Told.{EveningForC, eveningTold, EveningKeptForC}
+use Rattle.pachallu.specs.Told.{IgnoresForC, EveningForC, eveningTold, EveningKeptForC}
 use Rattle.pachallu.specs.Told.{reasonOf, WhyForC, reasonTold, WhyKept}
 use Rattle.pachallu.specs.declared.Made.{Made}
 use Rattle.pachallu.specs.declared.Found.{Found}
@@ -92,6 +96,7 @@ c-event-ends {sheet} {state} {held} {event} {memory} {output} {r} {memory′} {o
         (EventKept state held memory output (answeredOf a (runOf state held)) memory′ output′)
     by (Taken o run k) q =
         record { tells = event-ends sheet (runOf state held) (eventNo event) memory output q .tells; rest = λ n. absurd (n refl) }
+    by Ignored q = record { tells = event-ends sheet (runOf state held) (eventNo event) memory output q .tells; rest = λ n. absurd (n refl) }
     by (Refused x) q =
         let e = event-ends sheet (runOf state held) (eventNo event) memory output q in
         record {
@@ -100,6 +105,34 @@ c-event-ends {sheet} {state} {held} {event} {memory} {output} {r} {memory′} {o
               let k = e .rest n in
               record { memory-kept = k .0; output-kept = k .1; state-kept = refl; held-kept = refl; operation = refl; released = refl };
         }
+
+-- and when it is ignored: no operation that a sheet's cell can have is 3
+mark-not-3 : (o : Operation) → markOf o ≡ 3 → ⊥
+mark-not-3 Halt p = omega (arith, p)
+mark-not-3 Store p = omega (arith, p)
+mark-not-3 Dump p = omega (arith, p)
+
+pub c-event-ignores : {sheet : List ℕ} {state held event : ℕ} {memory output : List ℕ} {r : Answered} {memory′ output′ : List ℕ}
+    → EventForC sheet state held event memory output r memory′ output′ → IgnoresForC sheet state held event memory output r memory′ output′
+c-event-ignores {sheet} {state} {held} {event} {memory} {output} {r} {memory′} {output′} p =
+    rw (p .told) (by (p .answer) (event-ignores sheet (runOf state held) (eventNo event) memory output (p .promise)))
+  where
+    only : {a : Answer} → Ignores sheet (runOf state held) (eventNo event) memory output a memory′ output′
+        → (answeredOf a (runOf state held) .operation ≡ 3 → a ≡ Ignored)
+        → IgnoresForC sheet state held event memory output (answeredOf a (runOf state held)) memory′ output′
+    only {a} i from =
+        record {
+          exactly = (λ q. i .exactly .0 (from q), λ w. rw (i .exactly .1 w));
+          told = λ q. rw (from q);
+          memory-kept = λ q. i .memory-kept (from q);
+          output-kept = λ q. i .output-kept (from q);
+        }
+
+    by : (a : Answer) → Ignores sheet (runOf state held) (eventNo event) memory output a memory′ output′
+        → IgnoresForC sheet state held event memory output (answeredOf a (runOf state held)) memory′ output′
+    by (Taken o run n) i = only i (λ q. absurd (mark-not-3 o q))
+    by Ignored i = only i (λ q. refl)
+    by (Refused x) i = only i (λ q. absurd (omega (arith, q)))
 
 -- an evening
 pub c-evening-ends : {sheet : List ℕ} {state held : ℕ} {log memory output : List ℕ} {r : Evening} {memory′ output′ : List ℕ}

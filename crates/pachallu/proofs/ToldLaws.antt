@@ -24,7 +24,7 @@ use Rattle.monitor.specs.declared.Evening.{Evening}
 use Rattle.effects.specs.declared.Run.{Run}
 use Rattle.monitor.specs.declared.Start.{Start}
 use Rattle.effects.specs.declared.Answer.{Answer}
-use Rattle.effects.specs.declared.Answer.the-variants.{Taken, Refused}
+use Rattle.effects.specs.declared.Answer.the-variants.{Taken, Ignored, Refused}
 use Rattle.why.specs.Why.{WhyPromise}
 use Rattle.why.specs.declared.Ground.{Ground}
 use Rattle.why.specs.declared.Ground.the-variants.{Halted, Held, Released, Refused as Unasked}
@@ -70,6 +70,11 @@ module _ {sheet memory output memory′ output′ : List ℕ} {state held code :
       (record { refusal = 0; a = 0; b = 0; operation = mark; state = run .state .0; held = run .held; released = n }) memory′ output′
   event-taken p q e = record { answer = r; promise = p; told = rw (q, e) }
 
+  pub event-ignored : EventPromise sheet (runOf state held) (eventNo code) memory output r memory′ output′ → r ≡ Ignored
+      → EventForC sheet state held code memory output
+      (record { refusal = 0; a = 0; b = 0; operation = 3; state = state; held = held; released = 0 }) memory′ output′
+  event-ignored p q = record { answer = r; promise = p; told = rw q }
+
   pub event-refused : {x : Refusal} {t : Told} → EventPromise sheet (runOf state held) (eventNo code) memory output r memory′ output′
       → r ≡ Refused x → t ≡ toldOf x
       → EventForC sheet state held code memory output
@@ -86,8 +91,16 @@ told-refused q e = rw q e
 pub evening-told : {sheet log memory output memory′ output′ : List ℕ} {state held : ℕ} {r : Evening} {t : Told}
     → EveningPromise sheet (runOf state held) log memory output r memory′ output′ → t ≡ verdictTold (r .verdict)
     → EveningForC sheet state held log memory output
-    (record { refusal = t .number; a = t .a; b = t .b; state = r .run .state .0; held = r .run .held; taken = r .taken; released = r .released })
-    memory′ output′
+    (record {
+      refusal = t .number;
+      a = t .a;
+      b = t .b;
+      state = r .run .state .0;
+      held = r .run .held;
+      taken = r .taken;
+      released = r .released;
+      ignored = r .ignored;
+    }) memory′ output′
 evening-told {r = r} p e = record { answer = r; promise = p; told = rw e }
 
 -- why

@@ -1,13 +1,17 @@
 -- The answers told in numbers. Each promise is that of the call behind it, with the numbers of its answer.
 -- Assumes nothing.
-use Prim.Native.Nat.{ℕ}
+use Prim.Native.Nat.{ℕ, _≤_}
 use mathlib.Core.Path.{_≡_}
 use mathlib.Core.List.{List}
+use mathlib.Core.Logic.{_↔_}
+use lib.ListN.{length}
 use Rattle.rule.specs.Drawing.{stateNo, eventNo}
 use Rattle.rule.specs.Operations.{markOf}
 use Rattle.rule.specs.Refusals.{tell, toldOf, verdictTold}
 use Rattle.rule.specs.declared.Operation.{Operation}
 use Rattle.rule.specs.declared.Operation.the-variants.{Halt, Store, Dump}
+use Rattle.rule.specs.Given.{NoRow}
+use Rattle.sheet.specs.Layout.{headIn}
 use Rattle.rule.specs.declared.Told.{Told}
 use Rattle.rule.specs.declared.Verdict.{Verdict}
 use Rattle.rule.specs.declared.Verdict.the-variants.{Sound, Refused as Unsound}
@@ -22,11 +26,11 @@ use Rattle.printed.specs.Printing.{PrintPromise}
 use Rattle.monitor.specs.Fresh.{startOf}
 use Rattle.monitor.specs.Event.{EventPromise}
 use Rattle.monitor.specs.Evening.{EveningPromise}
-use Rattle.monitor.specs.Given.{EveningKept}
+use Rattle.monitor.specs.Given.{StandRow, EveningKept}
 use Rattle.monitor.specs.declared.Evening.{Evening as Reported}
 use Rattle.effects.specs.declared.Run.{Run}
 use Rattle.effects.specs.declared.Answer.{Answer}
-use Rattle.effects.specs.declared.Answer.the-variants.{Taken, Refused}
+use Rattle.effects.specs.declared.Answer.the-variants.{Taken, Ignored, Refused}
 use Rattle.why.specs.Why.{WhyPromise}
 use Rattle.why.specs.declared.Ground.{Ground}
 use Rattle.why.specs.declared.Ground.the-variants.{Halted, Held, Released, Refused as Unasked}
@@ -79,10 +83,15 @@ FreshForC sheet r = r ≡ startedOf (startOf sheet .verdict) (startOf sheet .run
 abbrev pub runOf : ℕ → ℕ → Run
 runOf state held = record { state = stateNo state; held = held }
 
--- one event: 0 is "taken"; a refused one has the state and the held number that it was given, operation 0, released 0
+-- one event: 0 is "taken" or "ignored"; an ignored or refused one has the state and the held number that it was given, and released 0; the operation of an
+-- ignored one is 3, of a refused one 0
+abbrev pub ignoredFor : Run → Answered
+ignoredFor before = record { refusal = 0; a = 0; b = 0; operation = 3; state = before .state .0; held = before .held; released = 0 }
+
 abbrev pub answeredOf : Answer → Run → Answered
 answeredOf (Taken o run n) before =
     record { refusal = 0; a = 0; b = 0; operation = markOf o; state = run .state .0; held = run .held; released = n }
+answeredOf Ignored before = ignoredFor before
 answeredOf (Refused r) before =
     record {
       refusal = toldOf r .number;
@@ -99,7 +108,7 @@ pub record EventForC (sheet : List ℕ) (state held event : ℕ) (memory output 
   pub promise : EventPromise sheet (runOf state held) (eventNo event) memory output answer memory′ output′
   pub told : r ≡ answeredOf answer (runOf state held)
 
--- an evening: 0 is "all taken"; a refused one has the run state, and the numbers taken and released, that the events before the refused one left
+-- an evening: 0 is "none refused"; a refused one has the run state, and the numbers taken, released and ignored, that the events before the refused one left
 abbrev pub eveningFor : Reported → Evening
 eveningFor r =
     record {
@@ -110,6 +119,7 @@ eveningFor r =
       held = r .run .held;
       taken = r .taken;
       released = r .released;
+      ignored = r .ignored;
     }
 
 pub record EveningForC (sheet : List ℕ) (state held : ℕ) (log memory output : List ℕ) (r : Evening) (memory′ output′ : List ℕ) : Type 0 where
@@ -179,6 +189,14 @@ pub record EventKept (state held : ℕ) (memory output : List ℕ) (r : Answered
   pub held-kept : r .held ≡ held
   pub operation : r .operation ≡ 0
   pub released : r .released ≡ 0
+
+-- an event is told as ignored, by operation 3, exactly when 11 and 12 do not hold and it is K or more; then the run state that was given is told back, and
+-- nothing changes
+pub record IgnoresForC (sheet : List ℕ) (state held event : ℕ) (memory output : List ℕ) (r : Answered) (memory′ output′ : List ℕ) : Type 0 where
+  pub exactly : (r .operation ≡ 3) ↔ (NoRow (StandRow sheet (runOf state held) (length memory)) × (headIn sheet .events ≤ event))
+  pub told : r .operation ≡ 3 → r ≡ ignoredFor (runOf state held)
+  pub memory-kept : r .operation ≡ 3 → memory′ ≡ memory
+  pub output-kept : r .operation ≡ 3 → output′ ≡ output
 
 -- what a refused evening leaves: what the events before the refused one left, told in numbers
 pub record EveningKeptForC (sheet : List ℕ) (state held : ℕ) (log memory output : List ℕ) (r : Evening) (memory′ output′ : List ℕ) : Type 0 where

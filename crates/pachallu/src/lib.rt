@@ -13,6 +13,9 @@ use rule::Verdict;
 use rule::Written;
 use why::Ground;
 
+// What stands for an operation where the event was ignored. A cell of a sheet with this operation is refused 14.
+pub const IGNORED: u8 = 3;
+
 // What making a sheet, printing a monitor or adding to a book came to. A refusal of 0 is "done".
 #[repr(C)]
 pub struct Made {
@@ -32,7 +35,7 @@ pub struct Started {
     pub held: usize,
 }
 
-// What one event came to. A refused one tells the run state that it was given.
+// What one event came to. A refused or an ignored one tells the run state that it was given; the operation of an ignored one is 3.
 #[repr(C)]
 pub struct Answered {
     pub refusal: u8,
@@ -55,7 +58,7 @@ pub struct Found {
     pub length: usize,
 }
 
-// What an evening of events came to: the run state after those taken, how many were taken and released, and the refusal that ended it, or 0.
+// What an evening of events came to: the run state after those taken, how many were taken, released and ignored, and the refusal that ended it, or 0.
 #[repr(C)]
 pub struct Evening {
     pub refusal: u8,
@@ -65,6 +68,7 @@ pub struct Evening {
     pub held: usize,
     pub taken: usize,
     pub released: usize,
+    pub ignored: usize,
 }
 
 // Why an event is answered as it is: the operation, the pair that is the ground for it, and the length of the way that meets the pair.
@@ -148,7 +152,7 @@ pub extern "C" fn pachallu_fresh(sheet: &[u8]) -> Started
     }
 }
 
-// Offers an event to a run: the refusals 11 to 16. What was released stands at the front of `output`.
+// Offers an event to a run: the refusals 11, 12 and 14 to 16. What was released stands at the front of `output`.
 #[no_mangle]
 pub extern "C" fn pachallu_event(
     sheet: &[u8],
@@ -182,6 +186,15 @@ pub extern "C" fn pachallu_event(
                 released,
             }
         }
+        Answer::Ignored => Answered {
+            refusal: 0,
+            a: 0,
+            b: 0,
+            operation: IGNORED,
+            state,
+            held,
+            released: 0,
+        },
         Answer::Refused(refusal) => {
             let told = refusal.told();
             Answered {
@@ -255,7 +268,7 @@ fn told_of(verdict: Verdict) -> Told
     }
 }
 
-// Offers up to 4,096 events to a run: the refusals 19, then 11 to 16. What was released stands at the front of `output`.
+// Offers up to 4,096 events to a run: the refusals 19, 11, 12, then 14 to 16. What was released stands at the front of `output`.
 #[no_mangle]
 pub extern "C" fn pachallu_events(
     sheet: &[u8],
@@ -285,6 +298,7 @@ pub extern "C" fn pachallu_events(
         held: after.held,
         taken: evening.taken,
         released: evening.released,
+        ignored: evening.ignored,
     }
 }
 

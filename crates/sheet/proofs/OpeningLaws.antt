@@ -3,12 +3,13 @@
 use Prim.Native.Nat.{ℕ, _+_, _*_, _≤_, _<_}
 use native.Mathlib.Omega.{arith}
 use mathlib.Core.Path.{_≡_, refl, sym, _∙_}
-use mathlib.Core.Bool.{Bool, true, false, cond, not}
+use mathlib.Core.Bool.{Bool, true, false, cond, not, _&&_}
 use mathlib.Core.List.{List}
 use mathlib.Core.Logic.{inl, inr, ⊎-elim, _↔_, Iff·trans}
 use lib.Arith.{digits-lt}
 use lib.ListN.{length}
-use borrow.Author.Tests.{not-true, not-false}
+use lib.Dec.{eqb}
+use borrow.Author.Tests.{le-leb, not-true, not-false}
 use Rattle.rule.specs.Reach.{placeOf}
 use Rattle.rule.specs.Range.{ruleLimits, inRange, InRange}
 use Rattle.rule.proofs.BoolLaws.{Says, and-says, eq-says, le-says, in-words, Fails, fails-say, le-fails, eq-fails, and-fails}
@@ -69,31 +70,23 @@ pub good-opened : {l : List ℕ} → GoodSheet l → Sheet (headIn l) ≡ opened
 unfolding openedOf
 good-opened g = rw (good-says _ .1 g)
 
--- the code's tests: the numbers by `hold`, the distance by `word`, the length by `size`; `faults` finds 11 from any of them
-module _ (l : List ℕ) {ok : Bool} (is : ok ≡ inRange ruleLimits (back l 6) (back l 5) (back l 4)) where
-  pub not-in-range : not ok ≡ true → BadSheet l
-  not-in-range h = out-of-range (range-fails ruleLimits _ _ _ .0 (sym is ∙ not-true ok h))
+-- the code's tests: the numbers by `hold`, the distance by `word`, the length by `size`
+module _ (l : List ℕ) {ranged : Bool} (is : ranged ≡ inRange ruleLimits (back l 6) (back l 5) (back l 4)) {w : ℕ} (told : w ≡ back l 2 + 256 * back l 1)
+    {whole : ℕ} (sum : whole ≡ wholeSize l) (long : 6 ≤ length l) where
+  abbrev good : Bool
+  good = eqb (back l 3) 77 && (ranged && (eqb w whole && eqb (length l) whole))
 
-  pub opened-as : not ok ≡ false → {w : ℕ} → w ≡ back l 2 + 256 * back l 1 → {whole : ℕ} → whole ≡ wholeSize l
-      → 6 ≤ length l → back l 3 ≡ 77 → w ≡ whole → length l ≡ whole → Sheet (headIn l) ≡ openedOf l
-  opened-as tested told sum long marked distance exact =
-      good-opened
-      (record {
-        long = long;
-        marked = marked;
-        in-range = range-says ruleLimits _ _ _ .0 (sym is ∙ not-false ok tested);
-        distance = sym told ∙ distance ∙ sum;
-        size = exact ∙ sum;
-      })
+  tested : opens l ≡ good
+  unfolding opens
+  tested = rw (le-leb _ _ long, is, told, sum)
 
-module _ (l : List ℕ) {whole : ℕ} (sum : whole ≡ wholeSize l) where
-  pub far-off : {w : ℕ} → w ≡ back l 2 + 256 * back l 1 → (w ≡ whole → ⊥) → BadSheet l
-  far-off told h = wrong-distance (λ e. h (told ∙ e ∙ sym sum))
+  pub refused-as : not good ≡ true → Refused ≡ openedOf l
+  unfolding openedOf
+  refused-as h = rw (tested ∙ not-true good h)
 
-  pub cut-off : (length l ≡ whole → ⊥) → BadSheet l
-  cut-off h = wrong-length (λ e. h (e ∙ sym sum))
-
-pub ruleset faults = (bad-refused, short, unmarked, not-in-range, far-off, cut-off)
+  pub opened-as : not good ≡ false → Sheet (headIn l) ≡ openedOf l
+  unfolding openedOf
+  opened-as h = rw (tested ∙ not-false good h)
 
 pub opened-when : (l : List ℕ) (h : Head) → (openedOf l ≡ Sheet h) ↔ (GoodSheet l × (headIn l ≡ h))
 unfolding openedOf

@@ -39,15 +39,12 @@ fn word(low: u8, high: u8) -> usize
     low as usize + 256 * (high as usize)
 }
 
-// Opens a sheet: its last six bytes are read and held to their rules.
+// Opens a sheet: its last six bytes are read and held to their rules. The tests are joined by `&`: one branch for all.
 pub fn open(sheet: &[u8]) -> Opened
     ensures { λ r. ⌜ r ≡ openedOf (now (sheet .entry)) ⌝ }
 {
     let len = sheet.len();
     if len < END {
-        return Opened::Refused;
-    }
-    if sheet[len - 3] != MARK {
         return Opened::Refused;
     }
     let states = sheet[len - 6];
@@ -57,14 +54,11 @@ pub fn open(sheet: &[u8]) -> Opened
         states: Rule::STATES,
         events: Rule::EVENTS,
     };
-    if !limits.hold(states, events, initial) {
-        return Opened::Refused;
-    }
     let whole = size(states, events);
-    if word(sheet[len - 2], sheet[len - 1]) != whole {
-        return Opened::Refused;
-    }
-    if len != whole {
+    let distance = word(sheet[len - 2], sheet[len - 1]);
+    let sized = (distance == whole) & (len == whole);
+    let good = (sheet[len - 3] == MARK) & (limits.hold(states, events, initial) & sized);
+    if !good {
         return Opened::Refused;
     }
     Opened::Sheet(Head {

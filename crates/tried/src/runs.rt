@@ -32,6 +32,10 @@ fn offer(sheet: &[u8], run: Run, code: u8, memory: &mut [u8], output: &mut [u8])
             said::number(released as u64);
             after
         }
+        Answer::Ignored => {
+            said::say(b" ignored");
+            run
+        }
         Answer::Refused(refusal) => {
             said::refused(refusal);
             run
@@ -64,14 +68,16 @@ fn evening(sheet: &[u8], start: Run, codes: &[u8], memory: &mut [u8], output: &m
     said::number(evening.taken as u64);
     said::say(b" released");
     said::number(evening.released as u64);
+    said::say(b" ignored");
+    said::number(evening.ignored as u64);
     said::output(output);
     said::memory(memory);
 }
 
-// The same with 4,000 events and as many more as the first number says, all of code 0.
+// The same with 4,000 events and as many more as the first number says, all of the code that is the second.
 fn long_evening(sheet: &[u8], start: Run, numbers: &[u8], memory: &mut [u8], output: &mut [u8]) {
-    let log = [0u8; 4255];
-    if 0 < numbers.len() {
+    if 1 < numbers.len() {
+        let log = [numbers[1]; 4255];
         let count = 4000 + wide(numbers[0]);
         evening(sheet, start, part(&log, 0, count), memory, output);
     }

@@ -1,6 +1,6 @@
--- `look` meets its contract: the refusals 12 and 13, or what the cell says; and a cell's place is in the sheet. Assumes nothing.
+-- `look` meets its contract: refusal 12, ignored, or what the cell says; and a cell's place is in the sheet. Assumes nothing.
 use borrow.Author.Needs.{needs}
-use Rattle.monitor.proofs.EventLaws.{run-12, cell-inside, code-13, place-fits}
+use Rattle.monitor.proofs.EventLaws.{run-12, cell-inside, code-past, place-fits}
 use Rattle.monitor.proofs.steps.look.Statement.{statement}
 use Rattle.monitor.proofs.steps.look.Tie as tie
 
@@ -8,7 +8,7 @@ returns : tie.Need-returns
 returns c = search (needs, run-12)
 
 returns-2 : tie.Need-returns-2
-returns-2 c = search (needs, code-13)
+returns-2 c = search (needs, code-past)
 
 shared-slice-read-read : tie.Need-shared-slice-read-read
 shared-slice-read-read c = search (needs, cell-inside)
