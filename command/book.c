@@ -21,11 +21,11 @@ enum status command_book_new(const struct arguments *arguments) {
 
 /* ---- list */
 
-/* "response, 3 states, 3 codes: backsight foresight disturbed" */
+/* "response, 3 states, 3 codes: backsight foresight disturbed", and "joint" where it is */
 static void put_summary(struct sink *out, const struct rule *rule) {
     size_t shown = 0;
-    put_line(out, "%s, %zu state%s, %zu code%s", class_words[rule->class], rule->states, rule->states == 1 ? "" : "s", rule->codes,
-             rule->codes == 1 ? "" : "s");
+    put_line(out, "%s%s, %zu state%s, %zu code%s", class_words[rule->class], rule->mode == JOINT ? ", joint" : "", rule->states,
+             rule->states == 1 ? "" : "s", rule->codes, rule->codes == 1 ? "" : "s");
     for (size_t code = 0; code < rule->codes; code++) {
         if (rule->names.code[code].len == 0) continue;
         if (shown++ == NAMES_SHOWN) {

@@ -47,6 +47,23 @@ static void take_class(struct reader *in, const struct token *token) {
         complain(in->complaints, d->class_line, "%s is no class: safety, guarantee, obligation or response is wanted", seen(token));
 }
 
+/* There is one word for it: the other mode is that of a drawing without this line. */
+static void take_mode(struct reader *in, const struct token *token) {
+    struct drawing *d = in->drawing;
+    if (d->mode_line) {
+        complain(in->complaints, token->line, "the mode is given already, in line %zu", d->mode_line);
+        return;
+    }
+    d->mode_line = token->line;
+    if (says(token + 1, "joint")) {
+        d->rule.mode = JOINT;
+        want_end(in, token + 2);
+    } else if (token[1].kind != SPOILED) {
+        complain(in->complaints, token->line, "%s is no mode: joint is wanted, or no such line where each pair is judged by itself",
+                 seen(token + 1));
+    }
+}
+
 /* Declares a code, with a name if there is one. */
 static void declare_code(struct reader *in, size_t number, const struct token *name, size_t line) {
     struct rule *rule = &in->drawing->rule;
@@ -200,9 +217,11 @@ static void take_declaration(struct reader *in, const struct token *token) {
     if (token->kind == SPOILED || says(token, "remarks")) return; /* told already; taken later */
     if (token->kind != WORD)
         complain(in->complaints, token->line,
-                 "a line begins with a state or with class, codes, remarks, start, accept or note, not with %s", seen(token));
+                 "a line begins with a state or with class, mode, codes, remarks, start, accept or note, not with %s", seen(token));
     else if (says(token, "class"))
         take_class(in, token);
+    else if (says(token, "mode"))
+        take_mode(in, token);
     else if (says(token, "codes"))
         take_codes(in, token);
     else if (says(token, "start"))
@@ -215,8 +234,8 @@ static void take_declaration(struct reader *in, const struct token *token) {
         declare_state(in, token);
     else
         complain(in->complaints, token->line,
-                 "%s begins no line of a drawing: those are STATE CODE -> STATE, .. and class, codes, remarks, start, accept and "
-                 "note",
+                 "%s begins no line of a drawing: those are STATE CODE -> STATE, .. and class, mode, codes, remarks, start, accept "
+                 "and note",
                  seen(token));
 }
 

@@ -11,7 +11,7 @@ enum { DRAWING_MOST = 1 << 20 };
 struct drawing {
     struct rule rule;
     /* where things are drawn; 0: nowhere */
-    size_t class_line, start_line, row_line[PACHALLU_STATES_MAX], pair_line[PACHALLU_PAIRS_MAX];
+    size_t class_line, mode_line, start_line, row_line[PACHALLU_STATES_MAX], pair_line[PACHALLU_PAIRS_MAX];
     struct complaints complaints;
 };
 

@@ -29,7 +29,7 @@ int number_in(const uint8_t *text, size_t len) {
     return number;
 }
 
-/* Words of the notation, and one that is kept for what it will say later. */
+/* Words of the notation. */
 static bool is_reserved(const uint8_t *text, size_t len) {
     static const char *const words[] = {"class", "codes", "start", "accept", "note", "else", "R", "P", "remarks", "mode"};
     for (size_t i = 0; i < sizeof words / sizeof words[0]; i++)

@@ -18,7 +18,7 @@ static void put_state(struct sink *out, const struct loaded *loaded, size_t stat
     const struct rule *rule = &loaded->rule;
     const char *shape = stopping ? "shape=box, style=filled, fillcolor=lightgrey" : "shape=ellipse";
     put_line(out, "    s%zu [label=\"%s\", tooltip=\"state %zu\", %s%s];\n", state, word_for(rule->names.state, state), state,
-             shape, is_accepting(rule, state) ? ", peripheries=2" : "");
+             shape, in_set(met_states(rule, rule->pairs), state) ? ", peripheries=2" : "");
 }
 
 /* The codes that move from one state to another, broken over lines. No name has a mark that Graphviz would read. */
@@ -61,7 +61,7 @@ enum status command_picture(const struct arguments *arguments) {
     uint64_t stopping = stopping_states(&loaded);
     put_text(&out, "digraph rule {\n    rankdir=LR;\n    fontname=\"sans-serif\";\n    fontsize=10;\n");
     put_text(&out, "    node [fontname=\"sans-serif\"];\n    edge [fontname=\"sans-serif\", fontsize=11];\n");
-    put_line(&out, "    label=\"Class %s. %s\";\n", class_words[rule->class], legend);
+    put_line(&out, "    label=\"Class %s%s. %s\";\n", class_words[rule->class], rule->mode == JOINT ? ", mode joint" : "", legend);
     for (size_t state = 0; state < rule->states; state++) put_state(&out, &loaded, state, in_set(stopping, state));
     put_line(&out, "    start [shape=point, label=\"\"];\n    start -> s%zu;\n", rule->start);
     for (size_t from = 0; from < rule->states; from++)

@@ -16,10 +16,11 @@ size_t move_of(const struct rule *rule, size_t state, size_t code) { return rule
 
 bool in_set(uint64_t set, size_t state) { return state < PACHALLU_STATES_MAX && (set >> state & 1) != 0; }
 
-bool is_accepting(const struct rule *rule, size_t state) {
-    for (size_t i = 0; i < rule->pairs; i++)
-        if (!in_set(rule->r[i] | rule->p[i], state)) return false;
-    return true;
+uint64_t met_states(const struct rule *rule, size_t pair) {
+    uint64_t all = ~(uint64_t)0;
+    if (pair < rule->pairs) return rule->r[pair] | rule->p[pair];
+    for (size_t i = 0; i < rule->pairs; i++) all &= rule->r[i] | rule->p[i];
+    return all;
 }
 
 static void put_number(uint8_t *bytes, uint64_t number, size_t len) {
@@ -50,7 +51,7 @@ size_t rule_to_file(const struct rule *rule, bool with_names, uint8_t bytes[PACH
                                 (uint8_t)rule->codes,
                                 (uint8_t)rule->pairs,
                                 (uint8_t)rule->start,
-                                0,
+                                (uint8_t)rule->mode,
                                 0,
                                 0,
                                 0,
@@ -71,6 +72,7 @@ static void take_apart(const uint8_t *bytes, size_t len, struct rule *rule) {
     rule->codes = trailer[2];
     rule->pairs = trailer[3];
     rule->start = trailer[4];
+    rule->mode = trailer[5];
     const uint8_t *pairs = trailer - PAIR * rule->pairs, *table = pairs - rule->states * rule->codes;
     memcpy(rule->table, table, rule->states * rule->codes);
     for (size_t i = 0; i < rule->pairs; i++) {
@@ -93,6 +95,12 @@ void load_bytes(struct loaded *loaded, const uint8_t *bytes, size_t len) {
     loaded->len = len < sizeof loaded->bytes ? len : sizeof loaded->bytes;
     memcpy(loaded->bytes, bytes, loaded->len);
     judge(loaded);
+}
+
+void load_joint(const struct loaded *loaded, struct loaded *joint) {
+    load_bytes(joint, loaded->bytes, loaded->len);
+    joint->bytes[joint->len - TRAILER + 5] = JOINT;
+    judge(joint);
 }
 
 static enum status load_from_books(const struct source *from, struct loaded *loaded) {

@@ -8,12 +8,14 @@
 #include "streams.h"
 
 enum { SAFETY = 1, GUARANTEE, OBLIGATION, RESPONSE, CLASSES };
+/* Is each pair judged by itself, or are all of them together? */
+enum { EACH_PAIR, JOINT };
 
 /* The word for a class from 1 to 4. */
 extern const char *const class_words[CLASSES];
 
 struct rule {
-    size_t class, states, codes, pairs, start;
+    size_t class, states, codes, pairs, start, mode;
     uint8_t table[PACHALLU_STATES_MAX * PACHALLU_EVENTS_MAX]; /* by state, then by code */
     uint64_t r[PACHALLU_PAIRS_MAX], p[PACHALLU_PAIRS_MAX];    /* bit s for state s */
     struct names names;
@@ -23,8 +25,8 @@ struct rule {
 
 size_t move_of(const struct rule *rule, size_t state, size_t code);
 bool in_set(uint64_t set, size_t state);
-/* Does the state lie in R or P of every pair? */
-bool is_accepting(const struct rule *rule, size_t state);
+/* The states in R or P of a pair; for one past the last: of every pair. */
+uint64_t met_states(const struct rule *rule, size_t pair);
 
 /* The file of a rule, names and all; 0 where the note would be over NOTE_MOST bytes. `note_len` is what it takes. */
 size_t rule_to_file(const struct rule *rule, bool with_names, uint8_t bytes[PACHALLU_RULE_MAX], size_t *note_len);
@@ -52,6 +54,8 @@ struct loaded {
 void judge(struct loaded *loaded);
 /* Puts a rule's bytes there, as many as show whether they are too many, and judges them. */
 void load_bytes(struct loaded *loaded, const uint8_t *bytes, size_t len);
+/* An accepted rule in joint mode. It is refused where it accepts nothing so. */
+void load_joint(const struct loaded *loaded, struct loaded *joint);
 /* Reads a rule. DONE: read, and accepted or refused. FAILED, and told: it could not be read. ANSWER_NO, and told: the books do not
  * have it. */
 enum status load(const struct source *from, struct loaded *loaded);

@@ -186,14 +186,20 @@ static void put_released(struct course *c) {
 
 /* What would release the held codes; or what was lost at the first halt, so that nothing does. */
 static void put_why(struct course *c) {
-    if (!c->halted_at && c->held == 0) return;
-    const struct reason *reason = reason_at(&c->reasons, c->halted_at ? c->halted_state : c->state);
-    put_text(&c->out, c->halted_at ? "lost      " : "waits for");
-    if (c->halted_at)
-        put_lost(&c->out, &c->loaded->rule, reason);
-    else
-        put_wait(&c->out, &c->loaded->rule, reason, PACHALLU_WAY_MAX);
-    put_text(&c->out, "\n");
+    const struct rule *rule = &c->loaded->rule;
+    struct reason release;
+    if (c->halted_at) {
+        put_text(&c->out, "lost      ");
+        put_lost(&c->out, rule, reason_at(&c->reasons, c->halted_state));
+        put_text(&c->out, "\n");
+    } else if (c->held > 0) {
+        put_text(&c->out, "waits for");
+        if (release_at(c->loaded, c->state, &release))
+            put_wait(&c->out, rule, &release, PACHALLU_WAY_MAX);
+        else
+            put_text(&c->out, " nothing that can come: all pairs together can never be met; in joint mode it would halt");
+        put_text(&c->out, "\n");
+    }
 }
 
 static void put_report(struct course *c) {

@@ -176,7 +176,7 @@ void put_drawing(struct sink *out, const struct rule *rule) {
         if (wide > column) column = wide;
     }
     column = column > WIDEST_HEAD ? WIDEST_HEAD : column + 2;
-    put_line(out, "class   %s\n", class_words[rule->class]);
+    put_line(out, "class   %s\n%s", class_words[rule->class], rule->mode == JOINT ? "mode    joint\n" : "");
     put_codes(out, rule);
     put_remarks(out, rule);
     put_line(out, "start   %s\n\n", word_for(rule->names.state, rule->start));

@@ -13,14 +13,28 @@ static void ask(const struct loaded *loaded, uint8_t state, uint8_t code, struct
     if (reason->told.refusal == 0) reason->at = move_of(&loaded->rule, state, code);
 }
 
-const struct reason *reason_at(struct reasons *reasons, size_t state) {
-    const struct rule *rule = &reasons->loaded->rule;
-    for (size_t cell = 0; cell < rule->states * rule->codes && !reasons->asked[state]; cell++) {
+/* All is judged at the state to which a code leads, so that any move to it will do. */
+static void ask_at(const struct loaded *loaded, size_t state, struct reason *reason) {
+    const struct rule *rule = &loaded->rule;
+    for (size_t cell = 0; cell < rule->states * rule->codes; cell++) {
         if (rule->table[cell] != state) continue;
-        ask(reasons->loaded, (uint8_t)(cell / rule->codes), (uint8_t)(cell % rule->codes), &reasons->reason[state]);
-        reasons->asked[state] = true;
+        ask(loaded, (uint8_t)(cell / rule->codes), (uint8_t)(cell % rule->codes), reason);
+        return;
     }
+}
+
+const struct reason *reason_at(struct reasons *reasons, size_t state) {
+    if (!reasons->asked[state]) ask_at(reasons->loaded, state, &reasons->reason[state]);
+    reasons->asked[state] = true;
     return &reasons->reason[state];
+}
+
+bool release_at(const struct loaded *loaded, size_t state, struct reason *release) {
+    static struct loaded joint;
+    load_joint(loaded, &joint);
+    if (joint.made.refusal) return false;
+    ask_at(&joint, state, release);
+    return release->told.operation == PACHALLU_STORE;
 }
 
 /* ---- in words */
@@ -39,32 +53,44 @@ static void put_way(struct sink *out, const struct rule *rule, const struct reas
 
 void put_wait(struct sink *out, const struct rule *rule, const struct reason *reason, size_t most) {
     put_way(out, rule, reason, most);
-    if (rule->pairs > 1) put_line(out, " (pair %u)", (unsigned)reason->told.pair);
+    if (rule->pairs > 1 && reason->told.pair < rule->pairs) put_line(out, " (pair %u)", (unsigned)reason->told.pair);
 }
 
-/* The states in which a pair is met. */
-static void put_met(struct sink *out, const struct rule *rule, size_t pair) {
-    put_set(out, rule->names.state, rule->states, rule->r[pair] | rule->p[pair], rule->states);
+/* The states in which the pair is met that a reason names, or in which all are. */
+static void put_met(struct sink *out, const struct rule *rule, const struct reason *reason) {
+    put_set(out, rule->names.state, rule->states, met_states(rule, reason->told.pair), rule->states);
 }
 
 void put_lost(struct sink *out, const struct rule *rule, const struct reason *reason) {
-    put_line(out, "pair %u, which wants one of:", (unsigned)reason->told.pair);
-    put_met(out, rule, reason->told.pair);
+    if (reason->told.pair < rule->pairs)
+        put_line(out, "pair %u, which wants one of:", (unsigned)reason->told.pair);
+    else
+        put_text(out, "all pairs together, which want one of:");
+    put_met(out, rule, reason);
 }
 
 static void put_halt(struct sink *out, const struct rule *rule, const struct reason *reason) {
-    put_line(out, "halt: pair %u is lost. It wants one of:", (unsigned)reason->told.pair);
-    put_met(out, rule, reason->told.pair);
-    put_line(out, "; no codes lead there from %s.\n", word_for(rule->names.state, reason->at));
+    if (reason->told.pair < rule->pairs)
+        put_line(out, "halt: pair %u is lost. It wants one of:", (unsigned)reason->told.pair);
+    else
+        put_text(out, "halt: all pairs together are lost, though none by itself. They want one of:");
+    put_met(out, rule, reason);
+    put_line(out, "; no codes lead there from %s.", word_for(rule->names.state, reason->at));
 }
 
-/* No code leads into P from outside it, so that R is what is wanted. */
+/* No code leads into P from outside it, so that of one pair R is what is wanted. */
 static void put_store(struct sink *out, const struct rule *rule, const struct reason *reason) {
-    put_line(out, "store: pair %u wants one of:", (unsigned)reason->told.pair);
-    put_set(out, rule->names.state, rule->states, rule->r[reason->told.pair], rule->states);
+    size_t pair = rule->pairs == 1 ? 0 : reason->told.pair;
+    if (pair < rule->pairs) {
+        put_line(out, "store: pair %zu wants one of:", pair);
+        put_set(out, rule->names.state, rule->states, rule->r[pair], rule->states);
+    } else {
+        put_text(out, "store: all pairs together want one of:");
+        put_met(out, rule, reason);
+    }
     put_text(out, ". The shortest way there:");
     put_way(out, rule, reason, PACHALLU_WAY_MAX);
-    put_text(out, ".\n");
+    put_text(out, ".");
 }
 
 void put_reason(struct sink *out, const struct rule *rule, const struct reason *reason) {
@@ -72,7 +98,7 @@ void put_reason(struct sink *out, const struct rule *rule, const struct reason *
     case PACHALLU_HALT: put_halt(out, rule, reason); break;
     case PACHALLU_STORE: put_store(out, rule, reason); break;
     default:
-        put_line(out, "dump: every pair is met at %s. The code goes in, and with it all that is held.\n",
+        put_line(out, "dump: every pair is met at %s. The code goes in, and with it all that is held.",
                  word_for(rule->names.state, reason->at));
     }
 }
@@ -102,7 +128,7 @@ enum status command_why(const struct arguments *arguments) {
     static struct loaded loaded;
     const struct rule *rule = &loaded.rule;
     const struct name *states = rule->names.state, *codes = rule->names.code;
-    struct reason reason;
+    struct reason reason, release;
     enum status status = load_accepted(&arguments->rule, &loaded);
     if (status != DONE) return status;
     int state = called(arguments->state, states, rule->states), code = called(arguments->code, codes, ALL_CODES);
@@ -115,5 +141,8 @@ enum status command_why(const struct arguments *arguments) {
                          rule->codes);
     struct sink out = sink_to(STDOUT_FILENO);
     put_reason(&out, rule, &reason);
+    if (reason.told.operation == PACHALLU_STORE && rule->pairs > 1 && !release_at(&loaded, reason.at, &release))
+        put_text(&out, " But all pairs together can never be met: in joint mode it would halt.");
+    put_text(&out, "\n");
     return end_output(&out, DONE);
 }

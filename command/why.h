@@ -21,11 +21,14 @@ struct reasons {
 /* The reason at a state to which some code leads, as at every state that a run comes to. */
 const struct reason *reason_at(struct reasons *reasons, size_t state);
 
-/* The whole sentence of `pachallu why`, with a new line. */
+/* At a state where a code is held: the codes that would release it, for all pairs together. False where there are none. */
+bool release_at(const struct loaded *loaded, size_t state, struct reason *release);
+
+/* The whole sentence of `pachallu why`, with no new line. */
 void put_reason(struct sink *out, const struct rule *rule, const struct reason *reason);
 /* Of a store: " foresight", the codes that are waited for, at most so many of them. */
 void put_wait(struct sink *out, const struct rule *rule, const struct reason *reason, size_t most);
-/* Of a halt: "pair 0, which wants one of: between". */
+/* Of a halt: "pair 0, which wants one of: between"; or all pairs together. */
 void put_lost(struct sink *out, const struct rule *rule, const struct reason *reason);
 
 #endif

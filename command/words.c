@@ -51,8 +51,8 @@ static void out_of_range(struct growing *words, const uint8_t *trailer) {
         say(words, "it has %u pairs; 1 to 8 are wanted", (unsigned)trailer[3]);
     else if (trailer[4] >= trailer[1])
         say(words, "it starts at state %u, and has only %u states, numbered from 0", (unsigned)trailer[4], (unsigned)trailer[1]);
-    else if (trailer[5] != 0)
-        say(words, "byte 5 of its trailer is %u; 0 is wanted", (unsigned)trailer[5]);
+    else if (trailer[5] > JOINT)
+        say(words, "its mode, byte 5 of the trailer, is %u; 0 or 1 is wanted", (unsigned)trailer[5]);
     else
         say(words, "it has %u pairs, and a rule of class %s has one", (unsigned)trailer[3], class_words[trailer[0]]);
 }
@@ -104,9 +104,12 @@ static void forbidden_move(struct growing *words, const struct rule *rule, size_
 }
 
 static void hopeless_start(struct growing *words, const struct rule *rule, unsigned pair) {
-    say(words, "nothing can ever be accepted: the start, %s, is not in P and reaches no state of R",
-        told_state(&rule->names, rule->start));
-    if (rule->pairs > 1) say(words, " (pair %u)", pair);
+    const char *start = told_state(&rule->names, rule->start);
+    if (pair < rule->pairs)
+        say(words, "nothing can ever be accepted: the start, %s, is not in P and reaches no state of R", start);
+    else
+        say(words, "nothing can ever be accepted: the start, %s, reaches no state that all pairs accept together", start);
+    if (rule->pairs > 1 && pair < rule->pairs) say(words, " (pair %u)", pair);
 }
 
 void refusal_words(const struct loaded *l, char text[REFUSAL_WORDS]) {

@@ -259,10 +259,12 @@ fn main() {
     for (name, rule) in [("random", by_chance()), ("chain", chain()), ("self-loops", self_loops()), ("zigzag", zigzag())] {
         bench.making(&format!("reading, {}", name), &rule, 0);
         bench.making(&format!("making a sheet, {}", name), &rule, 2054);
+        bench.making(&format!("making a joint sheet, {}", name), &Rule { mode: monitor::JOINT, ..rule }, 2054);
     }
     bench.why("why, a way of 63", &long_way(0), 0, 0, 63);
     bench.why("why, a way of 63 by the last event", &long_way(31), 0, 0, 63);
     let near = |e: &u8| monitor::reason(&monitor::layout(&by_chance()), 0, *e).map_or(0, |x| x.way.len()) == 1;
     bench.why("why, a way of 1, random", &by_chance(), 0, (0..32).find(near).unwrap_or(0), 1);
     bench.why("why, a way of 1, chain", &long_way(0), 61, 0, 1);
+    bench.why("why, a way of 63, joint", &Rule { mode: monitor::JOINT, ..long_way(0) }, 0, 0, 63);
 }

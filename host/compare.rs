@@ -131,8 +131,14 @@ struct Counts {
     pairs: [usize; 9],
     least: usize,
     greatest: usize,
+    /// Sound rules in joint mode by their class, those of them with several pairs, and moves that halt in joint mode only.
+    joint: [usize; 5],
+    joint_several: usize,
+    joint_halts: usize,
     damaged_but_sound: usize,
     made: [usize; 17],
+    /// Refusal 9 in joint mode of several pairs: by one of them, and by none on its own.
+    made_joint: [usize; 2],
     events: usize,
     /// Events by their operation, the ignored ones last; those ignored with events held and those after a halt; those refused 11 and 12.
     taken: [usize; 4],
@@ -199,6 +205,9 @@ impl Comparison {
             _ => false,
         };
         self.counts.places[second.refusal as usize] += hard as usize;
+        if second.refusal == 9 && mode(file) == monitor::JOINT && pairs(file) > 1 {
+            self.counts.made_joint[(second.a as usize == pairs(file)) as usize] += 1;
+        }
         Ok((library, sheet))
     }
 
@@ -389,6 +398,10 @@ impl Comparison {
         self.counts.pairs[rule.pairs.len()] += 1;
         self.counts.least += (rule.states == 1 && rule.events == 1) as usize;
         self.counts.greatest += (rule.states == monitor::STATES && rule.events == monitor::EVENTS) as usize;
+        if rule.mode == monitor::JOINT {
+            self.counts.joint[rule.class] += 1;
+            self.counts.joint_several += (rule.pairs.len() > 1) as usize;
+        }
         self.round_trip(&rule, file)?;
         let size = rule.states * rule.events + 6;
         for room in [0, dice.below(size), size - 1, size + 1 + dice.below(40)] {
@@ -401,6 +414,7 @@ impl Comparison {
             return Err(format!("a sheet of {} bytes was expected, {} were written", size, made.written));
         }
         self.whys(dice, &rule, file, sheet.bytes())?;
+        self.other_mode(dice, &rule, file, sheet.bytes())?;
         for _ in 0..3 {
             self.history(dice, &rule, &sheet)?;
         }
@@ -409,6 +423,32 @@ impl Comparison {
             let bytes = draw::spoiled(dice, sheet.bytes());
             let spoiled = Lent::of(dice, &bytes);
             self.wild(dice, &spoiled)?;
+        }
+        Ok(())
+    }
+
+    /// The same rule in the other mode. With one pair the sheet is the same, and so is every reason but for the pair that a store names; with several, joint
+    /// mode dumps where mode 0 does, and halts where mode 0 does, and maybe elsewhere too.
+    fn other_mode(&mut self, dice: &mut Dice, rule: &Rule, file: &[u8], sheet: &[u8]) -> Result<(), String> {
+        let other = monitor::layout(&Rule { mode: 1 - rule.mode, ..rule.clone() });
+        let (made, lent) = self.make(dice, &other, sheet.len())?;
+        if made.refusal == 9 && rule.mode == 0 && rule.pairs.len() > 1 {
+            return Ok(());
+        }
+        let (single, joint) = if rule.mode == 0 { (sheet, lent.bytes()) } else { (lent.bytes(), sheet) };
+        let cells = || single.iter().zip(joint).take(rule.states * rule.events).map(|(x, y)| (x / 64, y / 64));
+        let follows = cells().all(|(x, y)| x == y || (x, y) == (1, 0));
+        if made.refusal != 0 || !follows || (rule.pairs.len() == 1 && single != joint) {
+            return Err(format!("the two modes do not go together: {:?}\n  mode 0    {}\n  joint     {}", made, hex(single), hex(joint)));
+        }
+        self.counts.joint_halts += cells().filter(|(x, y)| x != y).count();
+        if rule.pairs.len() == 1 {
+            let (s, e) = (dice.below(rule.states) as u8, dice.below(rule.events) as u8);
+            let (one, way) = self.why(dice, file, s, e, 63)?;
+            let (two, other_way) = self.why(dice, &other, s, e, 63)?;
+            if (one.operation, one.length, way) != (two.operation, two.length, other_way) || (one.operation != 1 && one.pair != two.pair) {
+                return Err(format!("state {}, event {}: the reasons of the two modes differ: {:?} and {:?}", s, e, one, two));
+            }
         }
         Ok(())
     }
@@ -647,6 +687,15 @@ fn is_remark(sheet: &Lent, event: u8) -> bool {
     event as usize >= monitor::open(sheet.bytes()).map_or(monitor::EVENTS, |opened| opened.events)
 }
 
+/// The mode and the number of pairs that a rule file tells, one of 12 bytes at least.
+fn mode(file: &[u8]) -> usize {
+    file[file.len() - 7] as usize
+}
+
+fn pairs(file: &[u8]) -> usize {
+    file[file.len() - 9] as usize
+}
+
 fn mark(lengths: &mut Vec<bool>, len: usize) {
     if lengths.len() <= len {
         lengths.resize(len + 1, false);
@@ -667,6 +716,7 @@ fn rule(class: usize, rows: &[&[usize]], pairs: &[(&[usize], &[usize])]) -> Rule
         states: rows.len(),
         events: rows[0].len(),
         initial: 0,
+        mode: 0,
         note: vec![],
         rows: rows.iter().map(|row| row.to_vec()).collect(),
         pairs: pairs.iter().map(|(r, p)| Pair { r: r.to_vec(), p: p.to_vec() }).collect(),
@@ -750,8 +800,45 @@ impl Comparison {
         if (last.operation, past.operation) != (2, IGNORED) || told != (0, 3, 4, &[0, 1, 2][..]) {
             return Err(format!("rule A with codes that are not the rule's: {:?}, {:?}, {:?}", last, past, evening));
         }
+        self.joint_of_the_paper(dice, &o)?;
         self.whys_of_the_paper(dice, &a, &o)?;
         self.edges(dice, &a, &d)
+    }
+
+    /// O in joint mode is refused 9 with A 2. The rule J goes on where O stops: event 1 at the start leads where each pair has hope of its own.
+    fn joint_of_the_paper(&mut self, dice: &mut Dice, o: &Rule) -> Result<(), String> {
+        let (refused, _) = self.make(dice, &monitor::layout(&Rule { mode: monitor::JOINT, ..o.clone() }), 15)?;
+        if (refused.refusal, refused.a, refused.b) != (9, 2, 0) {
+            return Err(format!("rule O in joint mode: {:?}", refused));
+        }
+        let rows: &[&[usize]] = &[&[1, 5, 2], &[1, 2, 3], &[2, 2, 2], &[3, 3, 3], &[4, 4, 4], &[3, 4, 5]];
+        let single = rule(3, rows, &[(&[1, 2, 3], &[]), (&[2, 4], &[])]);
+        let j = Rule { mode: monitor::JOINT, ..single.clone() };
+        let halts = |rule: &Rule| monitor::stopping(rule);
+        if halts(&single) != [3, 4] || halts(&j) != [3, 4, 5] {
+            return Err("the second monitor does not stop rule J where it is hopeless".to_string());
+        }
+        // events, operations, released, held
+        let runs: [(&[u8], &[u8], &[u8], &[u8]); 3] =
+            [(&[0, 0, 1, 0], &[1, 1, 2, 2], &[0, 0, 1, 0], &[]), (&[0, 2, 1], &[1, 0, 0], &[], &[0]), (&[1, 2], &[0, 0], &[], &[])];
+        for (events, operations, released, held) in runs.iter() {
+            let (_, sheet) = self.make(dice, &monitor::layout(&j), 24)?;
+            let mut memory = Lent::blank(dice, 8);
+            let (end, output, told) = self.evening(dice, &sheet, Run { state: 0, held: 0 }, events, &mut memory, 8)?;
+            if (&told[..], &output.bytes()[..end.released], &memory.bytes()[..end.held]) != (*operations, *released, *held) {
+                return Err(format!("rule J in joint mode, events {:?}: {:?}, {:?}", events, told, end));
+            }
+        }
+        // state, event, operation, pair, way
+        let whys: [(u8, u8, u8, u8, &[u8]); 6] =
+            [(0, 0, 1, 2, &[1]), (0, 1, 0, 2, &[]), (0, 2, 2, 0, &[]), (1, 2, 0, 1, &[]), (5, 1, 0, 0, &[]), (5, 2, 0, 2, &[])];
+        for (state, event, operation, pair, way) in whys.iter() {
+            let (answer, told) = self.why(dice, &monitor::layout(&j), *state, *event, 63)?;
+            if (answer.operation, answer.pair, &told[..]) != (*operation, *pair, *way) {
+                return Err(format!("why, rule J in joint mode, state {}, event {}: {:?}, way {:?}", state, event, answer, told));
+            }
+        }
+        Ok(())
     }
 
     /// The edges: sizes, notes and lengths just inside and just outside.
@@ -761,6 +848,7 @@ impl Comparison {
             states: n,
             events: k,
             initial: 0,
+            mode: 0,
             note: vec![82; note],
             rows: vec![vec![0; k]; n],
             pairs: vec![Pair { r: vec![0], p: vec![] }; m],
@@ -780,6 +868,9 @@ impl Comparison {
             ("3,213 bytes", square(64, 32, 8, 1025), 1),
             ("a note of 1,056 bytes in a file of 3,212", square(63, 32, 8, 1056), 4),
             ("the shortest file", shortest.clone(), 0),
+            ("mode 1", Rule { mode: 1, ..a.clone() }, 0),
+            ("mode 2", Rule { mode: 2, ..a.clone() }, 3),
+            ("mode 255", Rule { mode: 255, ..a.clone() }, 3),
         ];
         if monitor::layout(&shortest).len() != 29 {
             return Err("the shortest rule file is not 29 bytes long".to_string());
@@ -856,7 +947,14 @@ fn report(c: &Counts) {
         "             {} of 1 x 1, {} of 64 x 32; {} damaged at one place and still sound",
         c.least, c.greatest, c.damaged_but_sound
     );
+    println!(
+        "             in joint mode by class {}, {} with several pairs; {} moves that halt in joint mode only",
+        list(&c.joint, 1..=4),
+        c.joint_several,
+        c.joint_halts
+    );
     println!("sheets       {} made; refused {}", c.made[0], list(&c.made, 1..=16));
+    println!("             9 in joint mode of several pairs: by one {}, by all together {}", c.made_joint[0], c.made_joint[1]);
     println!("texts        {} printed; refused 16 {}", c.texts[1], c.texts[0]);
     println!("fresh starts {}; refused {}", c.starts[0], c.starts[1]);
     println!(
@@ -937,6 +1035,13 @@ fn lacking(c: &Counts, printing: bool) -> Vec<String> {
         if c.sound[class] < ENOUGH {
             faults.push(format!("only {} sound rules of class {}", c.sound[class], class));
         }
+    }
+    let joint = [("of several pairs", c.joint_several), ("refused 9 by one pair", c.made_joint[0]), ("refused 9 by all together", c.made_joint[1])];
+    for (what, met) in joint.iter().filter(|(_, met)| *met < ENOUGH) {
+        faults.push(format!("rules in joint mode {}: met {} times; at least {} are wanted", what, met, ENOUGH));
+    }
+    if c.joint[1..].iter().any(|&met| met < ENOUGH) || c.joint_halts < ENOUGH || 4 * c.joint.iter().sum::<usize>() < c.sound.iter().sum::<usize>() {
+        faults.push("joint rules of each class, some that halt in joint mode only, and a quarter of all at least are wanted".to_string());
     }
     if c.pairs[1..].contains(&0) || c.least == 0 || c.greatest == 0 {
         faults.push("sound rules with each number of pairs, of 1 x 1 and of 64 x 32 are wanted".to_string());

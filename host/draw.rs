@@ -128,10 +128,35 @@ fn note(dice: &mut Dice, place: usize) -> Vec<u8> {
     note
 }
 
+/// Two pairs, each of which accepts one of two states that are never left, and not the other: where both can be reached, each pair has hope, and the two
+/// together may have none.
+fn tear(dice: &mut Dice, rows: &[Vec<usize>], pairs: &mut [Pair], ends: (usize, usize)) {
+    let first = dice.below(pairs.len());
+    let second = (first + 1 + dice.below(pairs.len() - 1)) % pairs.len();
+    for (pair, yes, no) in [(first, ends.0, ends.1), (second, ends.1, ends.0)] {
+        let pair = &mut pairs[pair];
+        // what leads to the other state would leave R
+        pair.r.retain(|&s| !closed(rows, &[s]).contains(&no));
+        pair.p.retain(|&s| s != no);
+        if !pair.r.contains(&yes) {
+            pair.r.push(yes);
+            pair.r.sort();
+        }
+    }
+}
+
 fn attempt(dice: &mut Dice, place: usize, class: usize) -> Rule {
     let (n, k) = size(dice, place);
+    // a third of the rules are in joint mode
+    let mode = if place % 3 == 2 { monitor::JOINT } else { 0 };
     let mut rows = table(dice, n, k);
     let bend = dice.one_in(2);
+    let ends = (dice.below(n), dice.below(n));
+    let torn = class == 3 && ends.0 != ends.1 && (mode == monitor::JOINT || dice.one_in(2));
+    if torn {
+        rows[ends.0].fill(ends.0);
+        rows[ends.1].fill(ends.1);
+    }
     let pairs: Vec<Pair> = match class {
         1 => {
             let bad = trap(dice, &mut rows, bend);
@@ -140,14 +165,18 @@ fn attempt(dice: &mut Dice, place: usize, class: usize) -> Rule {
         2 => vec![Pair { r: trap(dice, &mut rows, bend), p: vec![] }],
         3 => {
             let m = if place == 1 { 8 } else { 1 + dice.below(8) };
-            (0..m)
+            let mut pairs: Vec<Pair> = (0..m)
                 .map(|_| {
                     // bending for a second pair would open the first one's sets
                     let r = if dice.one_in(4) { vec![] } else { trap(dice, &mut rows, false) };
                     let p = if dice.one_in(3) { vec![] } else { others(n, &trap(dice, &mut rows, false)) };
                     Pair { r, p }
                 })
-                .collect()
+                .collect();
+            if torn && m > 1 {
+                tear(dice, &rows, &mut pairs, ends);
+            }
+            pairs
         }
         _ => {
             let odds = dice.pick(&[2, 4, 8, 15, 30]);
@@ -155,7 +184,7 @@ fn attempt(dice: &mut Dice, place: usize, class: usize) -> Rule {
         }
     };
     let initial = dice.below(n);
-    Rule { class, states: n, events: k, initial, note: note(dice, place), rows, pairs }
+    Rule { class, states: n, events: k, initial, mode, note: note(dice, place), rows, pairs }
 }
 
 /// Do the moves that a run from the initial state can meet have two operations or more?
@@ -193,7 +222,7 @@ pub fn sound(dice: &mut Dice, place: usize, class: usize) -> Rule {
 // ---------------------------------------------------------------------------------------------- damaged rule files
 
 /// How many ways of damage there are.
-pub const DAMAGES: usize = 38;
+pub const DAMAGES: usize = 41;
 
 /// A rule file with one damage of the given way, and what was done to it.
 pub fn damaged(dice: &mut Dice, place: usize, way: usize) -> (Vec<u8>, String) {
@@ -202,10 +231,11 @@ pub fn damaged(dice: &mut Dice, place: usize, way: usize) -> (Vec<u8>, String) {
         21 => dice.pick(&[1, 2, 4]),
         22 => dice.pick(&[1, 2, 3]),
         33 => dice.pick(&[1, 2, 4]),
-        24 | 36 => 3,
+        24 | 36 | 39 | 40 => 3,
         _ => 1 + dice.below(4),
     };
-    let mut rule = sound(dice, place + 4, class);
+    let joint = way == 40 || (way == 24 && dice.one_in(2));
+    let mut rule = sound(dice, if joint { 3 * place + 5 } else { place + 4 }, class);
     if way == 37 {
         rule.note = dice.bytes(1024);
     }
@@ -364,6 +394,7 @@ pub fn damaged(dice: &mut Dice, place: usize, way: usize) -> (Vec<u8>, String) {
                 states: n,
                 events: k,
                 initial: dice.below(n),
+                mode: dice.below(2),
                 note: vec![],
                 rows: (0..n).map(|_| (0..k).map(|_| dice.below(n)).collect()).collect(),
                 pairs: (0..m).map(|_| Pair { r: dice.some_states(n, 2), p: dice.some_states(n, 3) }).collect(),
@@ -429,6 +460,24 @@ pub fn damaged(dice: &mut Dice, place: usize, way: usize) -> (Vec<u8>, String) {
             }
             file = monitor::layout(&rule);
             "some pairs after the first emptied".to_string()
+        }
+        38 => {
+            file[end + 5] = dice.pick(&[2, 3, 128, 255]);
+            format!("mode {}", file[end + 5])
+        }
+        39 => {
+            file[end + 5] ^= 1;
+            "in the other mode".to_string()
+        }
+        40 => {
+            // stopping in joint mode by no single pair
+            let (joint, single) = (monitor::operations(&rule), monitor::operations(&Rule { mode: 0, ..rule.clone() }));
+            let torn: Vec<usize> = (0..n).filter(|&s| joint[s] != single[s]).collect();
+            if !torn.is_empty() {
+                rule.initial = dice.pick(&torn);
+            }
+            file = monitor::layout(&rule);
+            "begins where each pair has hope, and all together may have none".to_string()
         }
         _ => {
             // one byte more than the longest note

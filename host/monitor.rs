@@ -37,6 +37,9 @@ pub struct Pair {
     pub p: Vec<usize>,
 }
 
+/// The mode in which a rule stops when the whole of it is hopeless (M-105); 0 is the other one.
+pub const JOINT: usize = 1;
+
 /// A rule as drawn. `rows[s][e]` is the state after event e in state s; `pairs` are the used pairs.
 #[derive(Clone, PartialEq, Eq, Debug)]
 pub struct Rule {
@@ -44,6 +47,7 @@ pub struct Rule {
     pub states: usize,
     pub events: usize,
     pub initial: usize,
+    pub mode: usize,
     pub note: Vec<u8>,
     pub rows: Vec<Vec<usize>>,
     pub pairs: Vec<Pair>,
@@ -121,15 +125,38 @@ fn value(pair: &Pair, reached_from_t: &[bool], t: usize) -> Operation {
     p_side.max(r_side)
 }
 
-/// The operation of every move into t, for each t.
-pub fn operations(rule: &Rule) -> Vec<Operation> {
-    let reached = reach(rule);
-    (0..rule.states).map(|t| rule.pairs.iter().map(|pair| value(pair, &reached[t], t)).min().unwrap_or(Operation::Dump)).collect()
+/// Does every pair accept the state?
+fn all_accept(rule: &Rule, s: usize) -> bool {
+    rule.pairs.iter().all(|pair| pair.r.contains(&s) || pair.p.contains(&s))
 }
 
-/// The lowest pair by which a state is stopping.
+/// Does a state that every pair accepts lie among those reached?
+fn joint_hope(rule: &Rule, reached: &[bool]) -> bool {
+    (0..rule.states).any(|s| reached[s] && all_accept(rule, s))
+}
+
+/// The operation of every move into t, for each t, by the mode's rule.
+pub fn operations(rule: &Rule) -> Vec<Operation> {
+    let reached = reach(rule);
+    let joint = |t: usize| match (all_accept(rule, t), joint_hope(rule, &reached[t])) {
+        (true, _) => Operation::Dump,
+        (_, true) => Operation::Store,
+        _ => Operation::Halt,
+    };
+    let least = |t: usize| rule.pairs.iter().map(|pair| value(pair, &reached[t], t)).min().unwrap_or(Operation::Dump);
+    (0..rule.states).map(|t| if rule.mode == JOINT { joint(t) } else { least(t) }).collect()
+}
+
+/// Of a stopping state the lowest pair by which it is stopping on its own; in joint mode m, where there is none.
 fn stopping_by(rule: &Rule, reached_from_s: &[bool], s: usize) -> Option<usize> {
-    rule.pairs.iter().position(|pair| !pair.p.contains(&s) && !pair.r.iter().any(|&t| reached_from_s[t]))
+    let alone = rule.pairs.iter().position(|pair| !pair.p.contains(&s) && !pair.r.iter().any(|&t| reached_from_s[t]));
+    if rule.mode != JOINT {
+        return alone;
+    }
+    if joint_hope(rule, reached_from_s) {
+        return None;
+    }
+    Some(alone.unwrap_or(rule.pairs.len()))
 }
 
 /// The stopping states, rising.
@@ -141,14 +168,14 @@ pub fn stopping(rule: &Rule) -> Vec<usize> {
 // ---------------------------------------------------------------------------------------------- checks
 
 /// Refusals 2 and 3, on the numbers of the trailer.
-fn check_shape(class: usize, states: usize, events: usize, pairs: usize, initial: usize) -> Result<(), Refusal> {
+fn check_shape(class: usize, states: usize, events: usize, pairs: usize, initial: usize, mode: usize) -> Result<(), Refusal> {
     if class < 1 || class > 4 {
         return refuse(2);
     }
     if states < 1 || states > STATES || events < 1 || events > EVENTS || pairs < 1 || pairs > PAIRS || initial >= states {
         return refuse(3);
     }
-    if class != 3 && pairs != 1 {
+    if (class != 3 && pairs != 1) || mode > JOINT {
         return refuse(3);
     }
     Ok(())
@@ -207,7 +234,7 @@ fn check_drawing(rule: &Rule) -> Result<(), Refusal> {
 
 /// All that writing asks of a rule: 2, 3, 4 for the note, 5 to 10.
 pub fn check(rule: &Rule) -> Result<(), Refusal> {
-    check_shape(rule.class, rule.states, rule.events, rule.pairs.len(), rule.initial)?;
+    check_shape(rule.class, rule.states, rule.events, rule.pairs.len(), rule.initial, rule.mode)?;
     if rule.note.len() > NOTE {
         return refuse(4);
     }
@@ -255,11 +282,8 @@ pub fn read(file: &[u8]) -> Result<Rule, Refusal> {
         return refuse(1);
     }
     let number = |i: usize| trailer[i] as usize;
-    let (class, states, events, pairs, initial) = (number(0), number(1), number(2), number(3), number(4));
-    check_shape(class, states, events, pairs, initial)?;
-    if trailer[5] != 0 {
-        return refuse(3);
-    }
+    let (class, states, events, pairs, initial, mode) = (number(0), number(1), number(2), number(3), number(4), number(5));
+    check_shape(class, states, events, pairs, initial, mode)?;
     let to_pairs = TRAILER + 16 * pairs;
     let to_table = to_pairs + states * events;
     if two_bytes(&trailer[6..8]) != to_table || two_bytes(&trailer[8..10]) != to_pairs || file.len() < to_table {
@@ -275,6 +299,7 @@ pub fn read(file: &[u8]) -> Result<Rule, Refusal> {
         states,
         events,
         initial,
+        mode,
         note: note.to_vec(),
         rows: table.chunks(events).map(|row| row.iter().map(|&t| t as usize).collect()).collect(),
         pairs: rest[..16 * pairs].chunks(16).map(|pair| Pair { r: read_set(&pair[..8]), p: read_set(&pair[8..]) }).collect(),
@@ -295,7 +320,7 @@ pub fn layout(rule: &Rule) -> Vec<u8> {
     }
     let to_pairs = TRAILER + 16 * rule.pairs.len();
     let to_table = to_pairs + rule.states * rule.events;
-    for number in [rule.class, rule.states, rule.events, rule.pairs.len(), rule.initial, 0] {
+    for number in [rule.class, rule.states, rule.events, rule.pairs.len(), rule.initial, rule.mode] {
         out.push(number as u8);
     }
     for number in [to_table, to_pairs] {
@@ -572,7 +597,7 @@ pub fn events(sheet: &[u8], run: Run, log: &[u8], memory: &mut [u8], output: &mu
 // ---------------------------------------------------------------------------------------------- why
 
 /// Why an event is answered as it is (M-102): the operation, the pair that is its ground, and the events of the way that meets the pair. A dump has no
-/// ground, a halt no way.
+/// ground, a halt no way. In joint mode a pair of m stands for all of them.
 #[derive(Clone, PartialEq, Eq, Debug)]
 pub struct Reason {
     pub operation: Operation,
@@ -651,6 +676,15 @@ pub fn reason(file: &[u8], state: u8, event: u8) -> Result<Reason, Refusal> {
     // no way: the pair is lost; a way of no events: it is met
     let lost = ways.iter().position(|way| way.is_none());
     let unmet = ways.iter().position(|way| way.as_ref().map_or(true, |way| !way.is_empty()));
+    if rule.mode == JOINT {
+        let m = rule.pairs.len();
+        let all = way(&rule, t, &(0..rule.states).map(|s| rule.pairs.iter().all(|pair| met(pair, s))).collect::<Vec<_>>());
+        return Ok(match all {
+            None => Reason { operation: Operation::Halt, pair: lost.unwrap_or(m), way: vec![] },
+            Some(way) if way.is_empty() => Reason { operation: Operation::Dump, pair: 0, way },
+            Some(way) => Reason { operation: Operation::Store, pair: m, way },
+        });
+    }
     Ok(match (lost, unmet) {
         (Some(pair), _) => Reason { operation: Operation::Halt, pair, way: vec![] },
         (None, Some(pair)) => Reason { operation: Operation::Store, pair, way: ways[pair].clone().unwrap_or_default() },

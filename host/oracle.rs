@@ -3,7 +3,7 @@
 //! It knows nothing of sheets, operations or reach: it looks at every beginning of the list by the definition of
 //! acceptance, and asks whether a beginning could still be accepted by searching on from the state it ends in.
 
-use crate::monitor::Rule;
+use crate::monitor::{Rule, JOINT};
 
 /// The state after some events, from the initial state.
 fn after(rule: &Rule, events: &[u8]) -> usize {
@@ -71,7 +71,7 @@ pub fn judge(rule: &Rule, history: &History) -> Result<(), String> {
         if halts && hopeful {
             return Err(format!("a halt at event {} of the taken ones, where more events could still be accepted", n));
         }
-        if !halts && !hopeful && rule.pairs.len() == 1 {
+        if !halts && !hopeful && (rule.pairs.len() == 1 || rule.mode == JOINT) {
             return Err(format!("no halt at event {} of the taken ones, where nothing can be accepted any more", n));
         }
         if !halts && halt.map_or(false, |h| h < n - 1) {

@@ -29,6 +29,7 @@ struct Drawing<'a> {
     n: usize,
     k: usize,
     initial: usize,
+    joint: bool,
     table: &'a [u8],
     pairs: [Pair; 8],
     m: usize,
@@ -62,7 +63,7 @@ impl<'a> Drawing<'a> {
         }
         let [n, k, m, initial] = [trailer[1] as usize, trailer[2] as usize, trailer[3] as usize, trailer[4] as usize];
         let in_range = (1..=64).contains(&n) && (1..=32).contains(&k) && (1..=8).contains(&m) && initial < n;
-        if !in_range || trailer[5] != 0 || (class != 3 && m != 1) {
+        if !in_range || trailer[5] > 1 || (class != 3 && m != 1) {
             return refused(3, 0, 0);
         }
         let distance = |i: usize| u16::from_le_bytes([trailer[i], trailer[i + 1]]) as usize;
@@ -76,7 +77,7 @@ impl<'a> Drawing<'a> {
         for (i, pair) in pairs[..m].iter_mut().enumerate() {
             *pair = Pair { r: set(2 * i), p: set(2 * i + 1) };
         }
-        Ok(Drawing { class, n, k, initial, table: &front[file.len() - to_table..], pairs, m })
+        Ok(Drawing { class, n, k, initial, joint: trailer[5] == 1, table: &front[file.len() - to_table..], pairs, m })
     }
 
     /// Refusals 6 and 7.
@@ -109,12 +110,20 @@ impl<'a> Drawing<'a> {
         }
     }
 
+    /// The states that every pair accepts.
+    fn good(&self) -> u64 {
+        self.pairs().iter().fold(u64::MAX, |good, pair| good & (pair.r | pair.p))
+    }
+
     /// Refusals 9 and 10, from the states that the initial state reaches.
     fn check_start(&self, reached: u64) -> Checked<()> {
         for (i, pair) in self.pairs().iter().enumerate() {
             if !has(pair.p, self.initial) && pair.r & reached == 0 {
                 return refused(9, i, 0);
             }
+        }
+        if self.joint && self.good() & reached == 0 {
+            return refused(9, self.m, 0);
         }
         for (i, pair) in self.pairs().iter().enumerate() {
             if pair.p == 0 && pair.r == 0 {
@@ -220,6 +229,11 @@ impl<'a> Drawing<'a> {
 
     // ------------------------------------------------------------------------------------------ the sheet
 
+    /// The smallest value of the pairs at t.
+    fn least(&self, t: usize, reached: u64) -> u8 {
+        self.pairs().iter().map(|pair| value(pair, t, pair.r & reached != 0)).min().unwrap_or(2)
+    }
+
     fn write_sheet(&self, operation: &[u8; 64], sheet: &mut [u8]) -> usize {
         let cells = self.n * self.k;
         for (cell, &t) in sheet[..cells].iter_mut().zip(self.table) {
@@ -246,9 +260,10 @@ fn make_plainly(file: &[u8], sheet: &mut [u8]) -> Checked<usize> {
         return refused(16, 0, 0);
     }
     let mut operation = [0; 64];
+    let good = Pair { r: rule.good(), p: 0 };
     for t in 0..rule.n {
         let reached = rule.reached(t);
-        operation[t] = rule.pairs().iter().map(|pair| value(pair, t, pair.r & reached != 0)).min().unwrap_or(2);
+        operation[t] = if rule.joint { value(&good, t, good.r & reached != 0) } else { rule.least(t, reached) };
     }
     Ok(rule.write_sheet(&operation, sheet))
 }
@@ -267,7 +282,8 @@ fn make_backwards(file: &[u8], sheet: &mut [u8]) -> Checked<usize> {
         }
     }
     let mut operation = [2; 64];
-    for pair in rule.pairs() {
+    let good = [Pair { r: rule.good(), p: 0 }];
+    for pair in if rule.joint { &good } else { rule.pairs() } {
         let reaching = Drawing::reaching(&come, pair.r);
         for (t, least) in operation[..rule.n].iter_mut().enumerate() {
             *least = (*least).min(value(pair, t, has(reaching, t)));
@@ -368,7 +384,19 @@ impl<'a> Drawing<'a> {
         if let Some(i) = self.pairs().iter().position(|pair| unmet(pair) && (pair.r | pair.p) & reached == 0) {
             return (0, i);
         }
-        self.pairs().iter().position(unmet).map_or((2, 0), |i| (1, i))
+        if self.joint && self.good() & reached == 0 {
+            return (0, self.m);
+        }
+        self.pairs().iter().position(unmet).map_or((2, 0), |i| (1, if self.joint { self.m } else { i }))
+    }
+
+    /// The states that a store waits for by its ground.
+    fn goal(&self, ground: usize) -> u64 {
+        if ground == self.m {
+            self.good()
+        } else {
+            self.pairs[ground].r | self.pairs[ground].p
+        }
     }
 }
 
@@ -379,7 +407,7 @@ fn why_plainly(file: &[u8], state: u8, event: u8, way: &mut [u8]) -> Checked<(u8
     if operation != 1 {
         return Ok((operation, i, 0));
     }
-    let goal = rule.pairs[i].r | rule.pairs[i].p;
+    let goal = rule.goal(i);
     let mut search = Search::at(t);
     let mut place = 0;
     while !search.look(place, rule.row(search.state[place] as usize), goal) {
@@ -396,7 +424,7 @@ fn why_by_masks(file: &[u8], state: u8, event: u8, way: &mut [u8]) -> Checked<(u
     if operation != 1 {
         return Ok((operation, i, 0));
     }
-    let goal = rule.pairs[i].r | rule.pairs[i].p;
+    let goal = rule.goal(i);
     let mut search = Search::at(t);
     let mut place = 0;
     loop {

@@ -4,15 +4,17 @@ use crate::dice::Dice;
 use crate::draw::Lent;
 use crate::library::{self, Reason};
 use crate::monitor::{self, Refusal, Rule};
-use crate::{differ, hex, list, same_bytes, untouched, Comparison, ENOUGH};
+use crate::{differ, hex, list, mode, pairs, same_bytes, untouched, Comparison, ENOUGH};
 
 #[derive(Default)]
 pub struct ReasonCounts {
     /// By operation, and by refusal.
     told: [usize; 3],
     refused: [usize; 17],
-    /// Halts and stores whose pair is not the first.
+    /// Halts and stores of mode 0 whose pair is not the first.
     later: [usize; 2],
+    /// In joint mode of several pairs: halts by one pair, halts by all together, stores.
+    joint: [usize; 3],
     /// Ways of more than one event, ways that filled their output, and the longest.
     ways: usize,
     exact: usize,
@@ -53,7 +55,10 @@ impl Comparison {
             return Ok((library, vec![]));
         }
         c.told[second.operation as usize] += 1;
-        if second.operation < 2 {
+        if mode(file) == monitor::JOINT && pairs(file) > 1 && second.operation < 2 {
+            let together = second.pair as usize == pairs(file);
+            c.joint[if second.operation == 1 { 2 } else { together as usize }] += 1;
+        } else if second.operation < 2 && mode(file) == 0 {
             c.later[second.operation as usize] += (second.pair > 0) as usize;
         }
         c.ways += (second.length > 1) as usize;
@@ -72,13 +77,20 @@ impl Comparison {
     /// Questions to a sound file: of its states and events, and of others.
     pub fn whys(&mut self, dice: &mut Dice, rule: &Rule, file: &[u8], sheet: &[u8]) -> Result<(), String> {
         let (n, k) = (rule.states, rule.events);
-        for _ in 0..4 {
+        let single = monitor::operations(&Rule { mode: 0, ..rule.clone() });
+        let torn: Vec<usize> = (0..n * k).filter(|&i| sheet[i] / 64 != single[rule.rows[i / k][i % k]].number()).collect();
+        for turn in 0..4 {
             let (mut s, mut e) = (dice.below(n), dice.below(k));
             for _ in 0..dice.pick(&[0, 3, 12]) {
                 // mostly of an event that is held
                 if sheet[s * k + e] / 64 != 1 {
                     (s, e) = (dice.below(n), dice.below(k));
                 }
+            }
+            if turn < 2 && !torn.is_empty() {
+                // twice of an event that halts in joint mode only
+                let cell = dice.pick(&torn);
+                (s, e) = (cell / k, cell % k);
             }
             let (answer, way) = self.why(dice, file, s as u8, e as u8, 63)?;
             if answer.operation != sheet[s * k + e] / 64 {
@@ -87,7 +99,7 @@ impl Comparison {
             let (length, any) = (answer.length, dice.below(80));
             let room = dice.pick(&[0, length, length.saturating_sub(1), length + 1, any]);
             self.why(dice, file, s as u8, e as u8, room)?;
-            if n > 1 && answer.operation == 1 && rule.pairs.len() == 1 {
+            if answer.operation == 1 && (rule.pairs.len() == 1 || rule.mode == monitor::JOINT) {
                 self.follow(dice, sheet, s as u8, &[&[e as u8], &way[..]].concat())?;
             }
         }
@@ -101,7 +113,7 @@ impl Comparison {
         Ok(())
     }
 
-    /// With one pair the events of a way, taken after the event that is held, are held too, but for the last one: it releases all.
+    /// With one pair or in joint mode the events of a way, taken after the event that is held, are held too, but for the last one: it releases all.
     fn follow(&mut self, dice: &mut Dice, sheet: &[u8], state: u8, log: &[u8]) -> Result<(), String> {
         let count = dice.below(4);
         let held = dice.bytes(count);
@@ -152,6 +164,7 @@ pub fn report(c: &ReasonCounts) {
         c.later[1],
         list(&c.refused, 1..=16)
     );
+    println!("             in joint mode of several pairs: halt by one {}, by all together {}, store {}", c.joint[0], c.joint[1], c.joint[2]);
     println!(
         "             {} ways of more than one event, the longest of {}, {} in an output of just that length; {} followed to a dump",
         c.ways, c.longest, c.exact, c.followed
@@ -174,6 +187,9 @@ pub fn lacking(c: &ReasonCounts) -> Vec<String> {
     }
     want("halts by a later pair".to_string(), c.later[0]);
     want("stores by a later pair".to_string(), c.later[1]);
+    want("joint halts by one pair".to_string(), c.joint[0]);
+    want("joint halts by all pairs together".to_string(), c.joint[1]);
+    want("joint stores of several pairs".to_string(), c.joint[2]);
     want("ways of more than one event".to_string(), c.ways);
     want("outputs of just the way's length".to_string(), c.exact);
     want("answers with an output of no bytes".to_string(), c.roomless);

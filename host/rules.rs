@@ -4,7 +4,7 @@ use crate::dice::Dice;
 use crate::monitor::{Pair, Rule};
 
 pub fn rule(class: usize, rows: Vec<Vec<usize>>, pairs: Vec<Pair>) -> Rule {
-    Rule { class, states: rows.len(), events: rows[0].len(), initial: 0, note: vec![], rows, pairs }
+    Rule { class, states: rows.len(), events: rows[0].len(), initial: 0, mode: 0, note: vec![], rows, pairs }
 }
 
 pub fn set(states: std::ops::Range<usize>) -> Vec<usize> {

@@ -187,6 +187,7 @@ fn main() {
     let mut dice = Dice::new(3, 0);
     for (name, rule) in rules::all() {
         measuring.rule(name, &mut dice, &rule, 64);
+        measuring.rule(&format!("{}, joint", name), &mut dice, &Rule { mode: monitor::JOINT, ..rule }, 16);
     }
     for place in 0..RULES {
         let rule = draw::sound(&mut dice, place, 1 + place % 4);

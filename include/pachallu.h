@@ -29,6 +29,11 @@
  * pachallu_event do, one after another, each given the unwritten rest of the output. A halt does not end it, nor does an ignored code; the first
  * refused event does.
  *
+ * Byte 5 of a rule file's trailer is its mode. In mode 0 an event halts where some accepting pair can no longer be met. With several pairs a run
+ * may then hold events for nothing: each pair can still be met, but not all of them at one state. In mode 1, joint, an event halts exactly where
+ * nothing can be accepted any more: it is a dump where every pair is met, a halt where no further events lead to a state at which every pair is
+ * met, and else a store. With one pair the two modes give the same sheet.
+ *
  * THE RUN STATE is the two numbers `state` and `held`, and the first `held` bytes of the memory. The library keeps nothing
  * between calls: carry the two numbers from each answer into the next call, with the same sheet and the same memory, and leave
  * the held bytes alone. The memory's other bytes are yours between calls. Several runs may share one sheet; each has its own
@@ -39,9 +44,12 @@
  *
  *     halt    the lowest pair that is not met there and that no further events can meet
  *     store   the lowest pair not yet met there, and the shortest sequence of further events that meets it, the lowest in event order among
- *             equals: way[0] to way[length - 1], one event to 63. Taken after the event they meet the pair; in a rule of one pair the last of
- *             them is a dump, and all that was held goes out
+ *             equals: way[0] to way[length - 1], one event to 63. Taken after the event they meet the pair; in a rule of one pair, or in joint
+ *             mode, the last of them is a dump, and all that was held goes out
  *     dump    no ground is needed
+ *
+ * In joint mode a store always names m, the number of pairs, and its way is the shortest one to a state at which every pair is met; a halt names
+ * m where no single pair is at fault.
  *
  * A RULE BOOK keeps rule files under numbers from 0 to 255; docs/FORMATS.md has its bytes. Two bytes 0 are the book of no rules.
  * pachallu_add writes a book with one rule more. A number may be added again: the latest rule is in force, at age 0, and the ones
@@ -79,15 +87,16 @@
  *     no.  given when                                                                        a, b
  *      1   rule file under 12 or over 3,212 bytes, or its last two bytes are not 72, 82
  *      2   class not 1 to 4
- *      3   states, events, pairs or initial state out of range, byte 5 of the trailer not
- *          0, or several pairs in class 1, 2 or 4
+ *      3   states, events, pairs or initial state out of range, byte 5 of the trailer, the
+ *          mode, not 0 or 1, or several pairs in class 1, 2 or 4
  *      4   a distance is wrong, the file is too short for its table, or the note is over
  *          1,024 bytes
  *      5   a table entry is no state                                                         state, event: first such cell
  *      6   a pair names a state that is not there                                            pair; 0 if R does, 1 if only P
  *      7   class 1 with R not empty, class 2 or 4 with P not empty
  *      8   a move that the class forbids                                                     state, event: first such cell
- *      9   the initial state is stopping: nothing could ever be accepted                     pair by which it is
+ *      9   the initial state is stopping: nothing could ever be accepted                     lowest pair by which it is; in joint mode
+ *                                                                                            m, where no single pair is at fault
  *     10   a pair with R and P both empty                                                    pair
  *     11   this is no sheet: length, mark, sizes or initial state are wrong
  *     12   this is no run state of the sheet: state too great, or more held than the memory
@@ -184,7 +193,7 @@ typedef struct {
     uint8_t refusal;   /* 0: answered */
     uint8_t a, b;      /* places of a refusal */
     uint8_t operation; /* PACHALLU_HALT, PACHALLU_STORE or PACHALLU_DUMP: that of the sheet's cell */
-    uint8_t pair;      /* the ground of a halt or a store: an accepting pair, the first is 0; 0 for a dump */
+    uint8_t pair;      /* the ground of a halt or a store: an accepting pair, the first is 0, or m: all together; 0 for a dump */
     size_t length;     /* events at the front of the way: 1 to 63 for a store, else 0 */
 } pachallu_reason;
 
@@ -234,13 +243,13 @@ static inline const char *pachallu_refusal_text(uint8_t refusal) {
         "not refused",
         "this is no rule file: its length or its last two bytes are wrong",
         "the class is not 1 to 4",
-        "the states, events, pairs or initial state are out of range, or byte 5 of the trailer is not 0",
+        "the states, events, pairs or initial state are out of range, or byte 5 of the trailer, the mode, is not 0 or 1",
         "a distance in the trailer is wrong, the file is too short for its table, or its note is over 1,024 bytes",
         "the move of state A by event B leads to no state",
         "pair A names a state that is not there (B 0: in R, 1: in P)",
         "the class wants R or P to be empty, and it is not",
         "the class forbids the move of state A by event B",
-        "from the initial state nothing can ever be accepted (by pair A)",
+        "from the initial state nothing can ever be accepted (by pair A; by all together where A is the number of pairs)",
         "R and P of pair A are both empty",
         "this is no sheet",
         "this is no run state of the sheet, or no state of the rule",

@@ -71,6 +71,16 @@ static void round_trip(const struct loaded *loaded, const uint8_t *input, size_t
     sink_free(&out);
 }
 
+/* Where a code is held: what would release it leads to a state that every pair accepts. In joint mode there always is a way. */
+static void try_release(const struct loaded *loaded, size_t state, const uint8_t *input, size_t len) {
+    const struct rule *rule = &loaded->rule;
+    struct reason release;
+    bool hope = release_at(loaded, state, &release);
+    for (size_t at = 0; hope && at < release.told.length; at++) state = move_of(rule, state, release.way[at]);
+    if (hope ? !in_set(met_states(rule, rule->pairs), state) : rule->mode == JOINT || rule->pairs == 1)
+        fail("a way does not release what is held", input, len);
+}
+
 /* Of some moves of an accepted rule: the reason has the sheet's operation, and its way meets the pair at its end and not before. */
 static void try_reasons(const struct loaded *loaded, const uint8_t *input, size_t len) {
     static struct reasons reasons;
@@ -81,7 +91,7 @@ static void try_reasons(const struct loaded *loaded, const uint8_t *input, size_
     for (int i = 0; i < 3; i++) {
         size_t cell = dice(rule->states * rule->codes), state = rule->table[cell];
         const struct reason *reason = reason_at(&reasons, state);
-        const uint64_t met = rule->r[reason->told.pair] | rule->p[reason->told.pair];
+        const uint64_t met = met_states(rule, reason->told.pair);
         if (reason->told.refusal || reason->told.operation != loaded->sheet[cell] / 64)
             fail("a reason has another operation", input, len);
         for (size_t at = 0; at < reason->told.length; state = move_of(rule, state, reason->way[at++]))
@@ -89,6 +99,7 @@ static void try_reasons(const struct loaded *loaded, const uint8_t *input, size_
         if (in_set(met, state) != (reason->told.operation == PACHALLU_STORE) && reason->told.operation != PACHALLU_DUMP)
             fail("a way does not meet its pair, or a lost pair is met", input, len);
         put_reason(&out, rule, reason);
+        if (reason->told.operation == PACHALLU_STORE) try_release(loaded, rule->table[cell], input, len);
     }
     for (size_t i = 0; i < out.used; i++)
         if (out.bytes[i] < 32 && out.bytes[i] != '\n') fail("a reason has a control byte", input, len);
@@ -169,7 +180,7 @@ static const char *const words[] = {
     "class ", "codes ", "start ", "accept ",      "note \"",  "else ",    "-> ",          ", ",      "= ",          "R ",
     "P ",     "0 ",     "1 ",     "31",           "64 ",      "safety\n", "\n",           "\r\n",    "\"",          "\\",
     "\\x0",   "\\n",    "#",      "\xef\xbb\xbf", "\xc3\xb1", "\xc2\xa0", "pachallu 1\n", "states ", "99999999999", " a b c d e f ",
-    "remarks ", "40=",  " 255=",
+    "remarks ", "40=",  " 255=",  "mode joint\n",
 };
 
 static size_t put_in(uint8_t *bytes, size_t len, size_t at, const void *part, size_t part_len) {

@@ -2,8 +2,9 @@
  *
  *     generate FOLDER COUNT
  *
- * The same files every time. All classes, sizes from 1 x 1 to 64 x 32, 1 to 8 pairs; notes that are empty, names, names and a
- * text, any bytes, nearly names, and as long as can be. The form of the names is written here a second time, from docs/FORMATS.md.
+ * The same files every time. All classes, both modes, sizes from 1 x 1 to 64 x 32, 1 to 8 pairs; notes that are empty, names,
+ * names and a text, any bytes, nearly names, and as long as can be. The form of the names is written here a second time, from
+ * docs/FORMATS.md.
  */
 #include <pachallu.h>
 #include <stdio.h>
@@ -30,7 +31,7 @@ static uint64_t dice_set(size_t states) {
 }
 
 struct rule {
-    size_t class, states, codes, pairs, start;
+    size_t class, states, codes, pairs, start, mode;
     uint64_t r[8], p[8];
     uint8_t table[64 * 32];
 };
@@ -45,7 +46,7 @@ static int allowed(const struct rule *rule, size_t from, size_t to) {
 }
 
 static struct rule random_rule(size_t number) {
-    struct rule rule = {1 + number % 4, 1 + dice(8), 1 + dice(6), 1, 0, {0}, {0}, {0}};
+    struct rule rule = {1 + number % 4, 1 + dice(8), 1 + dice(6), 1, 0, dice(3) == 0, {0}, {0}, {0}};
     if (number % 7 == 0) rule.states = 1 + dice(64), rule.codes = 1 + dice(32);
     if (number % 25 == 1) rule.states = 64, rule.codes = 32;
     if (number % 25 == 2) rule.states = rule.codes = 1;
@@ -110,7 +111,7 @@ static size_t lay_out(const struct rule *rule, const uint8_t *note, size_t note_
     for (size_t i = 0; i < rule->pairs; i++, at += 16) put(file + at, rule->r[i], 8), put(file + at + 8, rule->p[i], 8);
     uint8_t *trailer = file + at;
     trailer[0] = (uint8_t)rule->class, trailer[1] = (uint8_t)rule->states, trailer[2] = (uint8_t)rule->codes;
-    trailer[3] = (uint8_t)rule->pairs, trailer[4] = (uint8_t)rule->start, trailer[5] = 0;
+    trailer[3] = (uint8_t)rule->pairs, trailer[4] = (uint8_t)rule->start, trailer[5] = (uint8_t)rule->mode;
     put(trailer + 6, 12 + 16 * rule->pairs + cells, 2);
     put(trailer + 8, 12 + 16 * rule->pairs, 2);
     trailer[10] = 72, trailer[11] = 82;

@@ -2,27 +2,29 @@
 -- Assumes nothing.
 use mathlib.Core.Path.{_≡_, refl, sym, _∙_}
 use mathlib.Core.List.{List, [], _∷_}
-use mathlib.Core.Bool.{Bool, true, false, not, _&&_, _||_}
+use mathlib.Core.Bool.{Bool, true, false, cond, not, _&&_, _||_}
 use Prim.Native.Nat.{ℕ, _+_, _-_, _/_, _^_, _≤_, _<_}
 use native.Mathlib.Nat.{lt-of-lt-of-le}
 use native.Mathlib.Omega.{arith}
-use borrow.Author.Tests.{le-leb, lt-leb}
+use borrow.Author.Tests.{le-leb, lt-leb, eq-eqb, ne-eqb}
 use lib.Dec.{leb, eqb}
 use lib.Pow.{pow-mono}
+use lib.Bits.{bitAnd}
 use lib.ListN.{length, getD, take, length-take, List·getD-eq-default}
 use lib.Seq.{getD-take}
 use Rattle.rule.specs.Classes.{forbids, forbidsSome, movesInto, movesOut}
-use Rattle.rule.specs.Drawing.{Drawing, states, events, count, initial, body, noPair, pairAt, stateNo, eventNo}
+use Rattle.rule.specs.Drawing.{Drawing, states, events, count, initial, joint, body, noPair, pairAt, stateNo, eventNo}
+use Rattle.rule.specs.Acceptance.{meetsAll, goodOf}
 use Rattle.rule.specs.Operations.{reachOf}
 use Rattle.rule.specs.Reach.{target, reachedWithin}
-use Rattle.rule.specs.Refusals.{refuseIf, firstOf, firstBelow, firstCell, entries, moves, memberAt}
-use Rattle.rule.specs.Refusals.{members, exceeds, excess, stopAt, stopped, emptyAt, empties, conditions}
-use Rattle.rule.specs.Sets.{has, isEmpty, namesPast}
-use Rattle.rule.specs.Stopping.{stopsBy}
+use Rattle.rule.specs.Refusals.{refuseIf, orElse, firstOf, firstBelow, firstCell, entries, moves, memberAt}
+use Rattle.rule.specs.Refusals.{members, exceeds, excess, stopAt, stoppedPairs, stoppedJoint, stopped, emptyAt, empties, conditions}
+use Rattle.rule.specs.Sets.{has, those, isEmpty, namesPast}
+use Rattle.rule.specs.Stopping.{stopsBy, stoppingJoint}
 use Rattle.rule.proofs.RefusalLaws.{below-hit, below-more, below-end, cells-hit, cells-end, cells-sound-iff, first-hit, first-more, first-one}
 use Rattle.rule.proofs.BoolLaws.{Says, clash, itself, not-so}
 use Rattle.rule.proofs.PairLaws.{Some, some-says}
-use Rattle.rule.proofs.SetLaws.{below-or, has-none, names-none}
+use Rattle.rule.proofs.SetLaws.{below-or, has-none, and-none, and-some, names-none}
 use Rattle.rule.specs.declared.Pair.{Pair}
 use Rattle.rule.specs.declared.Shape.{Shape}
 use Rattle.rule.specs.declared.Refusal.{Refusal}
@@ -213,17 +215,67 @@ module _ (d : Drawing) (i : ℕ) (none : firstBelow (stopAt d) i ≡ Sound) wher
   module _ {q : Pair} (at : q ≡ pairAt d i)
       {reach : ℕ} (far : reach ≡ reachedWithin (d .table) (states d) (events d) (initial d) (states d - 1)) {b : Bool}
       (is : b ≡ stopsBy q reach (initial d)) where
-    pub stop-hit : b ≡ true → i < count d → Refused (Stopping i) ≡ stopped d
-    unfolding stopped reachOf
+    pub stop-hit : b ≡ true → i < count d → Refused (Stopping i) ≡ stoppedPairs d
+    unfolding stoppedPairs reachOf
     stop-hit t h = hit-at (stopAt d) (count d) i none h (rw (← at, ← far, ← is, t))
 
     pub stop-more : b ≡ false → firstBelow (stopAt d) (i + 1) ≡ Sound
     unfolding reachOf
     stop-more t = below-more (stopAt d) i none (rw (← at, ← far, ← is, t))
 
-  pub stopped-all : i ≤ count d → count d ≤ i → Sound ≡ stopped d
-  unfolding stopped
+  pub stopped-all : i ≤ count d → count d ≤ i → Sound ≡ stoppedPairs d
+  unfolding stoppedPairs
   stopped-all = none-below (stopAt d) (count d) i none
+
+-- joint mode has hope: a state that every pair accepts is reached
+module _ (h : Shape) (table : List ℕ) (ps : List Pair) where
+  pub hope-other : (h .mode ≡ 1 → ⊥) → false ≡ joint (body h table ps) && not (stoppingJoint (body h table ps) (h .initial .0))
+  hope-other n = rw (ne-eqb (h .mode) 1 n)
+
+  module _ (j : h .mode ≡ 1) {reach good : ℕ}
+      (far : reach ≡ reachedWithin table (h .states) (h .events) (h .initial .0) (h .states - 1)) (all : good ≡ those (meetsAll (take (h .pairs) ps)) 64) where
+    pub hope-some : reach < 2 ^ 64 → (bitAnd reach good ≡ 0 → ⊥) → true ≡ joint (body h table ps) && not (stoppingJoint (body h table ps) (h .initial .0))
+    unfolding stoppingJoint reachOf goodOf
+    hope-some fits some = rw (eq-eqb (h .mode) 1 j, ← far, ← all, and-some reach good fits some)
+
+    pub hope-none : bitAnd reach good ≡ 0 → false ≡ joint (body h table ps) && not (stoppingJoint (body h table ps) (h .initial .0))
+    unfolding stoppingJoint reachOf goodOf
+    hope-none apart = rw (eq-eqb (h .mode) 1 j, ← far, ← all, and-none reach good apart)
+
+-- by the mode: with hope nothing is refused, without it what the pairs come to on their own, and in joint mode m where they come to nothing
+module _ (d : Drawing) {b : Bool} (hope : b ≡ joint d && not (stoppingJoint d (initial d))) where
+  pub stopped-hope : b ≡ true → Sound ≡ stopped d
+  unfolding stopped stoppedJoint
+  stopped-hope t = by (joint d) (stoppingJoint d (initial d)) (sym t ∙ hope)
+    where
+      by : (j s : Bool) → true ≡ j && not s → Sound ≡ cond j (cond s (orElse (stoppedPairs d) (Refused (Stopping (count d)))) Sound) (stoppedPairs d)
+      by true true q = clash (sym q) refl
+      by true false q = refl
+      by false s q = clash (sym q) refl
+
+  module _ (no : b ≡ false) {v : Verdict} (is : v ≡ stoppedPairs d) where
+    without : {y : Verdict} → y ≡ cond (joint d) (orElse v (Refused (Stopping (count d)))) v → y ≡ stopped d
+    unfolding stopped stoppedJoint
+    without {y} e = by (joint d) (stoppingJoint d (initial d)) (sym no ∙ hope) e
+      where
+        by : (j s : Bool) → false ≡ j && not s → y ≡ cond j (orElse v (Refused (Stopping (count d)))) v
+            → y ≡ cond j (cond s (orElse (stoppedPairs d) (Refused (Stopping (count d)))) Sound) (stoppedPairs d)
+        by true true q e = rw (← is) e
+        by true false q e = clash refl (sym q)
+        by false s q e = rw (← is) e
+
+    pub stopped-alone : {r : Refusal} → v ≡ Refused r → v ≡ stopped d
+    stopped-alone {r} e = without (by (joint d))
+      where
+        by : (j : Bool) → v ≡ cond j (orElse v (Refused (Stopping (count d)))) v
+        by true = rw e
+        by false = refl
+
+    pub stopped-together : v ≡ Sound → d .shape .mode ≡ 1 → (n : ℕ) → n ≡ count d → Refused (Stopping n) ≡ stopped d
+    stopped-together e j n m = without (rw (eq-eqb (d .shape .mode) 1 j, e, m))
+
+    pub stopped-none : v ≡ Sound → (d .shape .mode ≡ 1 → ⊥) → Sound ≡ stopped d
+    stopped-none e n = without (rw (ne-eqb (d .shape .mode) 1 n) (sym e))
 
 -- 10
 
@@ -263,7 +315,7 @@ module _ (h : Shape) (table : List ℕ) (ps : List Pair) {v : Verdict} where
 -- the note plays no part in the conditions 5 to 10
 pub conditions-note : (h : Shape) (note : List ℕ) (table : List ℕ) (ps : List Pair)
     → conditions (record { shape = h; note = note; table = table; pairs = ps }) ≡ conditions (record { shape = h; note = []; table = table; pairs = ps })
-unfolding entries members excess exceeds moves stopped reachOf empties
+unfolding entries members excess exceeds moves stopped stoppedPairs stoppedJoint stoppingJoint goodOf reachOf empties
 conditions-note h note table ps = refl
 
 -- a chain of verdicts: the first refusal is here, or later, or the last verdict is the answer

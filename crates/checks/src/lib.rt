@@ -1,19 +1,21 @@
 // The checks 5 to 10, once for reading, for writing and for making a sheet: over the shape, the lent table and the pairs.
 // Each answers the first refusal that it finds; none of them looks at the note.
 ghost use mathlib.Core.Path.{_≡_};
-ghost use mathlib.Core.Bool.{not};
+ghost use mathlib.Core.Bool.{not, _&&_};
 ghost use mathlib.Core.List.{[]};
 ghost use Prim.Native.Nat.{_≤_};
 ghost use lib.ListN.{take, drop};
 ghost use Rattle.rule.specs.Classes.{forbidsSome};
-ghost use Rattle.rule.specs.Drawing.{body, pairAt};
+ghost use Rattle.rule.specs.Drawing.{body, joint, pairAt};
 ghost use Rattle.rule.specs.Reach.{Closed};
 ghost use Rattle.rule.specs.Refusals.{refuseIf, firstOf, conditions};
 ghost use Rattle.rule.specs.Refusals as paper;
 ghost use Rattle.rule.specs.Sets.{namesPast};
+ghost use Rattle.rule.specs.Stopping.{stoppingJoint};
 ghost use Rattle.rule.specs.declared.Refusal.the-variants.{Range};
 ghost use Rattle.checks.specs.Checked.{holds, allBelow, checkedOf};
 use classes::banned;
+use operations::good_states;
 use operations::stops;
 use reach::event_into;
 use reach::next;
@@ -200,9 +202,9 @@ fn first_banned(shape: Shape, table: &[u8], pairs: [Pair; 8]) -> Verdict
     Verdict::Sound
 }
 
-// 9: the lowest used pair by which the initial state is stopping.
-pub fn check_stopped(shape: Shape, table: &[u8], pairs: [Pair; 8]) -> Verdict
-    ensures { λ r. ⌜ r ≡ paper.stopped (body shape (now (table .entry)) pairs) ⌝ }
+// The lowest used pair by which the initial state is stopping on its own.
+fn check_alone(shape: Shape, table: &[u8], pairs: [Pair; 8]) -> Verdict
+    ensures { λ r. ⌜ r ≡ paper.stoppedPairs (body shape (now (table .entry)) pairs) ⌝ }
 {
     let reach = reached(table, shape.states, shape.events, shape.initial);
     for i in 0..shape.pairs {
@@ -210,6 +212,37 @@ pub fn check_stopped(shape: Shape, table: &[u8], pairs: [Pair; 8]) -> Verdict
         if stops(pair, reach, shape.initial) {
             return Verdict::Refused(Refusal::Stopping(i));
         }
+    }
+    Verdict::Sound
+}
+
+// Whether the mode is joint and the initial state reaches a state that every pair accepts.
+fn has_hope(shape: Shape, table: &[u8], pairs: [Pair; 8]) -> bool
+    ensures { λ r. ⌜ r ≡ (joint (body shape (now (table .entry)) pairs) && not (stoppingJoint (body shape (now (table .entry)) pairs) (shape .initial .0))) ⌝ }
+{
+    if shape.mode != Rule::JOINT {
+        return false;
+    }
+    let reach = reached(table, shape.states, shape.events, shape.initial);
+    if reach & good_states(pairs, shape.pairs) != 0 {
+        return true;
+    }
+    false
+}
+
+// 9: the initial state is stopping, by the mode. The pair that is at fault on its own, or m where none is and the mode is joint.
+pub fn check_stopped(shape: Shape, table: &[u8], pairs: [Pair; 8]) -> Verdict
+    ensures { λ r. ⌜ r ≡ paper.stopped (body shape (now (table .entry)) pairs) ⌝ }
+{
+    if has_hope(shape, table, pairs) {
+        return Verdict::Sound;
+    }
+    let verdict = check_alone(shape, table, pairs);
+    let Verdict::Sound = verdict else {
+        return verdict;
+    };
+    if shape.mode == Rule::JOINT {
+        return Verdict::Refused(Refusal::Stopping(shape.pairs));
     }
     Verdict::Sound
 }

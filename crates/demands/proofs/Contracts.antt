@@ -11,7 +11,8 @@ use Rattle.octets.specs.Copies.{copied}
 use Rattle.octets.specs.Numbers as numbers
 use Rattle.octets.specs.Numbers.{digits}
 use Rattle.rule.specs.Range.{inRange}
-use Rattle.rule.specs.Sets.{has, including, Members}
+use Rattle.rule.specs.Acceptance.{meetsAll}
+use Rattle.rule.specs.Sets.{those, has, including, Members}
 use Rattle.rule.specs.Backward.{reaching}
 use Rattle.rule.specs.Reach.{placeOf, target, withMoves, reachedWithin}
 use Rattle.rule.specs.Ways.{eventInto}
@@ -218,6 +219,9 @@ operation-keeps κs a x = x .told
 
 pub Marks-at-keeps : Keeps operations.Marks.at.ended operations.Marks.at.Reads.Learnt λ κs a r l. r ≡ operationIn (a .0) (a .1 .0 .0)
 Marks-at-keeps κs a x = x .told
+
+pub good-states-keeps : Keeps operations.good_states.ended operations.good_states.Reads.Learnt λ κs a r l. r ≡ those (meetsAll (take (a .1 .0) (a .0))) 64
+good-states-keeps κs a x = x .told
 
 pub mark-states-keeps : Keeps operations.mark_states.ended operations.mark_states.Reads.Learnt λ κs a r l.
     r ≡ marksOf (body (a .0) (now (a .1 .0)) (a .1 .1 .0))

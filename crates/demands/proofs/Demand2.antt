@@ -6,7 +6,7 @@ use lib.ListN.{length}
 use Rattle.rule.specs.Drawing.{next, stateNo, drawn}
 use Rattle.rule.specs.Machine.{machineOf}
 use Rattle.rule.specs.declared.Operation.{Operation}
-use Rattle.rule.proofs.ConstructionLaws.{published-moves, published-stops}
+use Rattle.rule.proofs.ConstructionLaws.{built-moves, built-stops}
 use Rattle.rule.proofs.OperationLaws.{stopping-stays}
 use Rattle.rulefile.specs.Layout.{drawingIn, fileOf}
 use Rattle.rulefile.specs.Writing.{verdictOf}
@@ -29,19 +29,20 @@ demand-2 file sheet made =
     let F = L .formed in
     let W = L .well in
     let C = L .classed in
+    let M = L .mode-in in
     record {
       of-class = C;
       opened = L .drawn .opened;
-      cells = λ q c h k a t. rw (L .sheet-is, cell-next F q c h k, cell-operation F q c h k, mark-back) (published-moves d W q c h k a t C);
+      cells = λ q c h k a t. rw (L .sheet-is, cell-next F q c h k, cell-operation F q c h k, mark-back) (built-moves d W M C q c h k a t);
       does = λ run e memory output v k f a t p r memory′ output′ kept.
-          let is = published-moves d W (run .state .0) (e .0) v k a t C .0 p in
+          let is = built-moves d W M C (run .state .0) (e .0) v k a t .0 p in
           let turn : turnOf sheet run e memory output ≡ roomTurn (Move a (stateNo t)) (run .held) (length memory) (length output) =
           turn-move (machineOf d) (L .lawful) sheet (L .drawn) run e memory v f k output
           ∙ ap (λ (o : Operation). roomTurn (Move o (stateNo (next d (run .state .0) (e .0)))) (run .held) (length memory) (length output)) (sym (is .0))
           ∙ ap (λ (n : ℕ). roomTurn (Move a (stateNo n)) (run .held) (length memory) (length output)) (sym (is .1)) in
           rw turn at kept;
-      stops = λ q h. published-stops d W q h C;
-      stays = λ q e h k p. published-stops d W (next d q e) (W .closed q e h k) C .1 (stopping-stays d W q e h k (published-stops d W q h C .0 p));
+      stops = built-stops d W M C;
+      stays = λ q e h k p. built-stops d W M C (next d q e) (W .closed q e h k) .1 (stopping-stays d W q e h k (built-stops d W M C q h .0 p));
     }
 
 pub every-rule : EveryRule

@@ -34,7 +34,7 @@ demand-3 file sheet made {log} {released} {run} {memory} h =
       longest = λ p s q a. K .longest .longest p s q (sym (accepts-machine d p) ∙ a);
       whole = K .whole;
       halts-only = λ before after e q v known a. K .halts-only before after e q v known (sym (accepts-machine d ((codes before ++ e ∷ []) ++ v)) ∙ a);
-      one-pair = λ one before after x q hopeless.
+      every-point = λ one before after x q hopeless.
           history-sharp m L sheet D (M .sharp-one one) h .halts-at-each before after x q
           (λ v known a. hopeless v known (accepts-machine d ((codes before ++ x .code ∷ []) ++ v) ∙ a));
       halted = λ before after c q e k output r memory′ output′ p.

@@ -6,6 +6,7 @@ pub mod Found
 pub mod Evening
 pub mod Why
 pub mod Ignored
+pub mod Modes
 -- they are about the code that is built: each function's contract says what they say of it
 pub mod Contracts
 -- what a made sheet has; the calls of a C program are a history

@@ -1,13 +1,15 @@
 -- A sheet made by this build: it is the sheet of what is drawn in the file, it is the machine's, and the machine has the laws.
 -- Every file that is not refused has one, and a run begins on it.
 -- Assumes nothing.
-use Prim.Native.Nat.{ℕ}
+use Prim.Native.Nat.{ℕ, _≤_}
 use native.Mathlib.Omega.{arith}
 use mathlib.Core.Path.{_≡_, refl, sym, _∙_}
+use mathlib.Core.Logic.{_⊎_}
 use mathlib.Core.List.{List, [], _++_}
 use lib.ListN.{length, drop}
 use lib.Seq.{take-at}
 use Rattle.rule.specs.Drawing.{count}
+use Rattle.rule.specs.Range.{lastMode}
 use Rattle.rule.specs.Classes.{OfClass}
 use Rattle.rule.specs.WellDrawn.{WellDrawn}
 use Rattle.rule.specs.Machine.{machineOf, Laws, Sharp}
@@ -35,7 +37,8 @@ pub record Lawful (file sheet : List ℕ) : Type 0 where
   pub well : WellDrawn (drawingIn file)
   pub formed : Formed (drawingIn file)
   pub lawful : Laws (machineOf (drawingIn file))
-  pub sharp-one : count (drawingIn file) ≡ 1 → Sharp (machineOf (drawingIn file))
+  pub mode-in : drawingIn file .shape .mode ≤ lastMode
+  pub sharp-one : (drawingIn file .shape .mode ≡ 1) ⊎ (count (drawingIn file) ≡ 1) → Sharp (machineOf (drawingIn file))
   pub drawn : Drawn (machineOf (drawingIn file)) sheet
 
 pub made-lawful : {file sheet : List ℕ} → Made file sheet → Lawful file sheet
@@ -53,6 +56,7 @@ made-lawful {file} {sheet} made =
       well = W;
       formed = F;
       lawful = laws d W;
+      mode-in = file-shaped file S .ranged .mode-in;
       sharp-one = sharp d W;
       drawn = rw e (record { few = W .few-states; opened = sheet-opens F; cells = sheet-cell F });
     }

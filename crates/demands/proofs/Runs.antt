@@ -4,15 +4,16 @@ use Prim.Native.Nat.{ℕ}
 use mathlib.Core.Path.{_≡_, refl}
 use mathlib.Core.List.{List, [], _∷_, map}
 use Rattle.octets.specs.Numbers.{valueOf, digits}
-use Rattle.rule.specs.Sets.{has, insert, including, meetsBelow, meets, isEmpty, namesPast}
+use Rattle.rule.specs.Sets.{has, insert, including, those, meetsBelow, meets, isEmpty, namesPast}
 use Rattle.rule.specs.Reach.{target, withMoves, movedBelow, movedSet, spread, reachedWithin}
 use Rattle.rule.specs.Drawing.{eventNo}
 use Rattle.rule.specs.Operations as paper
-use Rattle.rule.specs.Operations.{smallestOf, reachOf, operationAt}
-use Rattle.rule.specs.Stopping.{stopsBy}
+use Rattle.rule.specs.Acceptance.{meetsPair, meetsAll, goodOf}
+use Rattle.rule.specs.Operations.{smallestOf, reachOf, operationPairs, operationJoint, operationAt}
+use Rattle.rule.specs.Stopping.{stopsBy, stoppingJoint}
 use Rattle.rule.specs.Classes.{movesInto, movesOut, forbids, forbidsSome}
 use Rattle.rule.specs.Range.{inRange}
-use Rattle.rule.specs.Refusals.{firstOf, firstBelow, firstCell, entries, members, exceeds, excess, moves, stopped, empties}
+use Rattle.rule.specs.Refusals.{firstOf, firstBelow, firstCell, entries, members, exceeds, excess, moves, stoppedPairs, stoppedJoint, stopped, empties}
 use Rattle.rule.specs.declared.Verdict.the-variants.{Sound}
 use Rattle.trailer.specs.Conditions.{framed, classed, ranged, placed}
 use Rattle.trailer.specs.Layout.{trailerOf, trailerOut}
@@ -22,7 +23,7 @@ use Rattle.sheet.specs.Layout.{sheetOf}
 use Rattle.sheet.specs.Opening.{opens, openedOf}
 use Rattle.monitor.specs.Event.{cellTurn, lookOf}
 use Rattle.history.specs.History.{History, call}
-use Rattle.demands.specs.Marked.{A, S, G, O, D, Stand, eight, begin, one, all, markOf, marked, found, wanted}
+use Rattle.demands.specs.Marked.{A, S, G, O, D, J, Stand, eight, begin, one, all, markOf, marked, markedJoint, found, wanted}
 
 -- the layout of setup rule A, byte for byte
 pub file-A : fileOf A ≡ 1 ∷ 2 ∷ 0 ∷ 2 ∷ 0 ∷ 2 ∷ 2 ∷ 2 ∷ 2 ∷ 1 ∷ 0 ∷ 0 ∷ 0 ∷ 0 ∷ 0 ∷ 0 ∷ 0 ∷ 0 ∷ 0 ∷ 0 ∷ 0 ∷ 0 ∷ 0 ∷ 0 ∷ 0 ∷ 4 ∷ 3 ∷ 3 ∷ 1 ∷ 0 ∷ 0 ∷
@@ -38,7 +39,7 @@ read-back = refl
 -- and none of them is refused
 pub none-refused : map (λ d. verdictOn (fileOf d)) (A ∷ S ∷ G ∷ O ∷ D ∷ []) ≡ Sound ∷ Sound ∷ Sound ∷ Sound ∷ Sound ∷ []
 unfolding fileOf flatUpTo trailerOut digits drawingIn trailerOf upTo valueOf verdictOn firstOf framed classed ranged inRange placed firstBelow
-    firstCell entries members exceeds excess moves stopped empties namesPast isEmpty has insert including meetsBelow meets target withMoves movedBelow
+    firstCell entries members exceeds excess moves stoppedPairs stopped empties namesPast isEmpty has insert including meetsBelow meets target withMoves movedBelow
     movedSet spread reachedWithin reachOf stopsBy movesInto movesOut forbids forbidsSome
 none-refused = refl
 
@@ -50,20 +51,33 @@ pub sheets : map sheetOf (A ∷ S ∷ G ∷ O ∷ D ∷ []) ≡
     ∷ (1 ∷ 2 ∷ 64 ∷ 1 ∷ 1 ∷ 1 ∷ 2 ∷ 2 ∷ 2 ∷ 3 ∷ 3 ∷ 0 ∷ 77 ∷ 15 ∷ 0 ∷ [])
     ∷ (1 ∷ 1 ∷ 2 ∷ 1 ∷ 0 ∷ 77 ∷ 8 ∷ 0 ∷ [])
     ∷ []
-unfolding sheetOf digits operationAt smallestOf paper.valueOf reachOf has insert including meetsBelow meets target withMoves movedBelow movedSet
+unfolding sheetOf digits operationAt operationPairs smallestOf paper.valueOf reachOf has insert including meetsBelow meets target withMoves movedBelow movedSet
     spread reachedWithin
 sheets = refl
 
+-- the joint rule is not refused either
+pub joint-sound : verdictOn (fileOf J) ≡ Sound
+unfolding fileOf flatUpTo trailerOut digits drawingIn trailerOf upTo valueOf verdictOn firstOf framed classed ranged inRange placed firstBelow
+    firstCell entries members exceeds excess moves stoppedPairs stoppedJoint stopped empties namesPast isEmpty has insert including those meetsBelow meets
+    target withMoves movedBelow movedSet spread reachedWithin reachOf stopsBy stoppingJoint goodOf meetsAll meetsPair movesInto movesOut forbids forbidsSome
+joint-sound = refl
+
+-- its runs
+pub the-joint : found markedJoint ≡ wanted markedJoint
+unfolding found wanted markOf all one sheetOf digits operationAt operationPairs operationJoint goodOf meetsAll meetsPair those smallestOf paper.valueOf
+    reachOf has insert including meetsBelow meets target withMoves movedBelow movedSet spread reachedWithin inRange opens openedOf cellTurn lookOf
+the-joint = refl
+
 -- the twelve marked runs
 pub the-twelve : found marked ≡ wanted marked
-unfolding found wanted markOf all one sheetOf digits operationAt smallestOf paper.valueOf reachOf has insert including meetsBelow meets target
+unfolding found wanted markOf all one sheetOf digits operationAt operationPairs smallestOf paper.valueOf reachOf has insert including meetsBelow meets target
     withMoves movedBelow movedSet spread reachedWithin inRange opens openedOf cellTurn lookOf
 the-twelve = refl
 
 -- the fourth with codes between that are not the rule's business: the same, for they are not taken
 pub remarked : markOf (all (sheetOf A) (begin (sheetOf A)) (9 ∷ 0 ∷ 1 ∷ 255 ∷ 2 ∷ 0 ∷ 3 ∷ 1 ∷ 0 ∷ 2 ∷ 200 ∷ []))
     ≡ record { released = 0 ∷ 1 ∷ 2 ∷ 0 ∷ 1 ∷ []; held = 0 ∷ []; halt = 7 }
-unfolding markOf all one sheetOf digits operationAt smallestOf paper.valueOf reachOf has insert including meetsBelow meets target
+unfolding markOf all one sheetOf digits operationAt operationPairs smallestOf paper.valueOf reachOf has insert including meetsBelow meets target
     withMoves movedBelow movedSet spread reachedWithin inRange opens openedOf cellTurn lookOf
 remarked = refl
 

@@ -3,11 +3,12 @@ use Prim.Native.Nat.{ℕ, suc, _+_, _/_, _≤_, _<_}
 use native.Mathlib.Omega.{arith}
 use mathlib.Core.Path.{_≡_, refl, sym, ap, _∙_}
 use mathlib.Core.Bool.{true}
+use mathlib.Core.Logic.{_⊎_, ⊎-elim}
 use mathlib.Core.List.{List, [], _∷_, _++_, append-assoc}
 use lib.ListN.{length, getD, take, drop, length-append}
 use lib.Seq.{take-at, drop-at}
-use Rattle.rule.specs.Acceptance.{meetsPair, meetsAll}
-use Rattle.rule.specs.Drawing.{Drawing, states, events, count, initial, next, pairAt}
+use Rattle.rule.specs.Acceptance.{meetsAll}
+use Rattle.rule.specs.Drawing.{Drawing, states, events, count, initial, next}
 use Rattle.rule.specs.Machine.{machineOf}
 use Rattle.rule.specs.Given.{NoPair}
 use Rattle.rule.specs.Operations.{operationAt, operation}
@@ -15,6 +16,7 @@ use Rattle.rule.specs.Reach.{after, placeOf, more}
 use Rattle.rule.specs.WellDrawn.{WellDrawn}
 use Rattle.rule.specs.declared.Operation.the-variants.{Halt}
 use Rattle.rule.specs.declared.Refusal.{Refusal}
+use Rattle.rule.proofs.PairLaws.{meets-all}
 use Rattle.rule.proofs.WayLaws.{after-append}
 use Rattle.rulefile.specs.Layout.{drawingIn}
 use Rattle.sheet.specs.Layout.{operationOf}
@@ -29,12 +31,12 @@ use Rattle.history.proofs.HistoryLaws.{mark-back, history-at, history-all, hist
 use Rattle.history.proofs.CourseLaws.{codes-append}
 use Rattle.history.proofs.EveningLaws.{evening-history}
 use Rattle.history.proofs.RoomLaws.{AllTaken, calls-taken}
-use Rattle.why.specs.Grounds.{Lost, StoreGround}
+use Rattle.why.specs.Grounds.{Lost, Wanted, a-pair, all-pairs, goal, StoreGround}
 use Rattle.why.specs.Why.{Says, held, WhyPromise}
 use Rattle.why.specs.declared.Ground.{Ground}
 use Rattle.why.specs.declared.Ground.the-variants.{Held, Refused}
 use Rattle.why.proofs.AnswerLaws.{Accepted, was-accepted, why-says, why-names, why-room}
-use Rattle.why.proofs.GroundLaws.{met-says, halt-when, store-when, dump-when, one-halt, one-store, way-some, way-few}
+use Rattle.why.proofs.GroundLaws.{goal-pair, goal-all, halt-when, store-when, dump-when, one-halt, one-store, way-some, way-few}
 use Rattle.demands.specs.Made.{Made}
 use Rattle.demands.specs.Why.{OfGrounds, OfAnswers, WayWorks, WayTaken, WhyDemand}
 use Rattle.demands.proofs.MadeLaws.{made-lawful}
@@ -107,13 +109,19 @@ module _ (file sheet : List ℕ) (made : Made file sheet) {log : List Entry} {re
         ∙ after-append (next d) (initial d) (codes log) (e ∷ take n out′)
         ∙ ap (λ (q : ℕ). after (next d) (next d q e) (take n out′)) (sym (history-at (machineOf d) (M .lawful) sheet (M .drawn) h))
 
-    met-there : meetsPair (pairAt d i) (run′ .state .0) ≡ true
+    met-there : goal d i (run′ .state .0) ≡ true
     met-there = rw there (ground .way .meets .ends)
 
-    accepting : count d ≡ 1 → meetsAll (d .pairs) (run′ .state .0) ≡ true
-    accepting one =
-        met-says (d .pairs) (run′ .state .0) .1
-        (λ j b. let z : j ≡ i = omega (arith, made-lawful made .well .whole, ground .lowest .used) in rw z met-there)
+    accepting : (d .shape .mode ≡ 1) ⊎ (count d ≡ 1) → meetsAll (d .pairs) (run′ .state .0) ≡ true
+    accepting one = by (ground .wanted) met-there
+      where
+        by : {j : ℕ} → Wanted d (next d (run .state .0) e) j → goal d j (run′ .state .0) ≡ true → meetsAll (d .pairs) (run′ .state .0) ≡ true
+        by (all-pairs j some) m = sym (goal-all d (count d) j _) ∙ m
+        by (a-pair {i = j} n l) m =
+            ⊎-elim (λ k. absurd (n k))
+            (λ k. meets-all (d .pairs) (run′ .state .0) .1
+            (λ x b. let z : x ≡ j = omega (arith, made-lawful made .well .whole, l .used) in rw z (sym (goal-pair d j n _) ∙ m)))
+            one
 
     way-works : WayWorks d i later gone run′
     way-works =

@@ -30,9 +30,9 @@ use Rattle.pachallu.specs.Told.{madeOf, startedOf, answeredOf, runOf}
 use Rattle.demands.specs.Made.{Made}
 use Rattle.demands.specs.Demand3.{Demand3}
 use Rattle.demands.specs.FromC.{MadeForC, HistoryForC, fresh, call}
-use Rattle.demands.specs.Marked.{A, S, G, O, D, Stand, eight, begin, all}
+use Rattle.demands.specs.Marked.{A, S, G, O, D, J, Stand, eight, begin, all}
 use Rattle.demands.proofs.MadeLaws.{made-lawful, sound-made, begins}
-use Rattle.demands.proofs.Runs.{none-refused, all-history}
+use Rattle.demands.proofs.Runs.{none-refused, joint-sound, all-history}
 use Rattle.demands.proofs.Demand3.{demand-3}
 
 -- where a C program stands on a sheet
@@ -162,3 +162,8 @@ run-10 = witnessed O _ refl (ap (λ l. getD l 3 (Refused Room)) none-refused)
 pub run-12 : Witnessed D (0 ∷ [])
 unfolding fileOf flatUpTo trailerOut digits
 run-12 = witnessed D _ refl (ap (λ l. getD l 4 (Refused Room)) none-refused)
+
+-- and a run in joint mode
+pub run-J : Witnessed J (0 ∷ 1 ∷ 2 ∷ [])
+unfolding fileOf flatUpTo trailerOut digits
+run-J = witnessed J _ refl joint-sound

@@ -1,4 +1,5 @@
--- DEMAND 2. For each rule of the four classes the monitor does, in every state and at every code, what the published construction says.
+-- DEMAND 2. For each rule of the four classes the monitor does, in every state and at every code, what the published construction says; in joint mode,
+-- what the construction of M-105 says, which is one for all classes.
 -- A rule read and written again is byte for byte the same file; a rule written and read is the same rule.
 -- Assumes nothing: these are statements. proofs/Demand2 proves them.
 use Prim.Native.Nat.{ℕ, _/_, _%_, _≤_, _<_}
@@ -12,7 +13,7 @@ use Rattle.rule.specs.Reach.{placeOf}
 use Rattle.rule.specs.Drawing.{Drawing, states, events, initial, next, stateNo, drawn, ruleOf, Same}
 use Rattle.rule.specs.Stopping.{stopping}
 use Rattle.rule.specs.Classes.{OfClass}
-use Rattle.rule.specs.Constructions.{PublishedMove, PublishedStop}
+use Rattle.rule.specs.Constructions.{BuiltMove, BuiltStop}
 use Rattle.rule.specs.declared.EventNo.{EventNo}
 use Rattle.rule.specs.declared.Operation.{Operation}
 use Rattle.rule.specs.Given.{NoRow, Given}
@@ -36,25 +37,26 @@ use Rattle.effects.specs.declared.Turn.the-variants.{Move}
 use Rattle.sheet.specs.Layout.{operationOf}
 use Rattle.monitor.specs.Event.{EventPromise}
 
--- the sheet made from a rule file is the published monitor of the rule's class
+-- the sheet made from a rule file is the monitor of the construction for the rule's class and mode
 pub record Demand2 (d : Drawing) (sheet : List ℕ) : Type 0 where
   -- the rule is of its class
   pub of-class : OfClass d (d .shape .class)
   -- the sheet opens with the rule's N, K and initial state
   pub opened : openedOf sheet ≡ Sheet (record { states = states d; events = events d; initial = stateNo (initial d) })
-  -- at every state and code, the cell's operation and next state are the published move's, and no other's
+  -- at every state and code, the cell's operation and next state are the construction's, and no other's
   pub cells : (q e : ℕ) → q < states d → e < events d → (a : Operation) (t : ℕ)
-      → PublishedMove d q e (d .shape .class) a t
+      → BuiltMove d q e (d .shape .class) (d .shape .mode) a t
       ↔ ((a ≡ operationOf (getD sheet (placeOf (events d) q e) 0 / 64)) × (t ≡ getD sheet (placeOf (events d) q e) 0 % 64))
   -- and one event does that: in every state, at every code, with as much held as the memory has, the answer, the memory and the output are those
-  -- of the published move's operation, or the refusal where there is no room for it
+  -- of the construction's operation, or the refusal where there is no room for it
   pub does : (run : Run) (e : EventNo) (memory output : List ℕ) → run .state .0 < states d → e .0 < events d → run .held ≤ length memory
-      → (a : Operation) (t : ℕ) → PublishedMove d (run .state .0) (e .0) (d .shape .class) a t
+      → (a : Operation) (t : ℕ) → BuiltMove d (run .state .0) (e .0) (d .shape .class) (d .shape .mode) a t
       → (r : Answer) (memory′ output′ : List ℕ) → EventPromise sheet run e memory output r memory′ output′
       → TurnPromise (roomTurn (Move a (stateNo t)) (run .held) (length memory) (length output)) run e memory output r memory′ output′
-  -- the stopping states are the published ones, and they lead only to stopping states
-  pub stops : (q : ℕ) → q < states d → PublishedStop d q (d .shape .class) ↔ (stopping d q ≡ true)
-  pub stays : (q e : ℕ) → q < states d → e < events d → PublishedStop d q (d .shape .class) → PublishedStop d (next d q e) (d .shape .class)
+  -- the stopping states are the construction's, and they lead only to stopping states
+  pub stops : (q : ℕ) → q < states d → BuiltStop d q (d .shape .class) (d .shape .mode) ↔ (stopping d q ≡ true)
+  pub stays : (q e : ℕ) → q < states d → e < events d → BuiltStop d q (d .shape .class) (d .shape .mode)
+      → BuiltStop d (next d q e) (d .shape .class) (d .shape .mode)
 
 -- every rule that the table of refusals does not refuse has its sheet made, where there is room, and no other has; a refusal is that of the first
 -- row that holds

@@ -1,6 +1,6 @@
 -- DEMAND 3. For any accepted rule and any codes taken since a fresh start: what was released is the longest beginning that the drawn rule accepts;
 -- released then held is everything taken before the first halt; it halts only where nothing, so far or longer, could be accepted,
--- and with one accepting pair at every such point. After a halt every event under K is taken and answered halt.
+-- and with one accepting pair, or in joint mode with any number, at every such point. After a halt every event under K is taken and answered halt.
 --
 -- It speaks of one sheet that `make` made from a rule file, and of any history of calls on it (crate history, specs/History): each call keeps the
 -- promise of one event and gets the run state that the call before returned; refused and ignored events are not taken, so it reads over the others
@@ -10,6 +10,7 @@
 use Prim.Native.Nat.{ℕ, _≤_, _<_}
 use mathlib.Core.Path.{_≡_}
 use mathlib.Core.Bool.{true}
+use mathlib.Core.Logic.{_⊎_}
 use mathlib.Core.List.{List, [], _∷_, _++_}
 use lib.ListN.{length, take}
 use Rattle.rule.specs.Drawing.{Drawing, events, count, next, stateNo}
@@ -37,8 +38,8 @@ pub record Demand3 (d : Drawing) (sheet : List ℕ) (log : List Entry) (released
   pub whole : released ++ take (run .held) memory ≡ beforeHalt log
   -- it halts only where nothing, so far or longer, could be accepted
   pub halts-only : (before after : List Entry) (e : ℕ) → log ≡ before ++ halting e ∷ after → Hopeless (events d) (accepts d) (codes before ++ e ∷ [])
-  -- and with one accepting pair at every such point
-  pub one-pair : count d ≡ 1 → (before after : List Entry) (x : Entry) → log ≡ before ++ x ∷ after
+  -- and with one accepting pair, or in joint mode with any number of them, at every such point
+  pub every-point : (d .shape .mode ≡ 1) ⊎ (count d ≡ 1) → (before after : List Entry) (x : Entry) → log ≡ before ++ x ∷ after
       → Hopeless (events d) (accepts d) (codes before ++ x .code ∷ []) → x .operation ≡ Halt
   -- after a halt every event under K is taken and answered halt
   pub halted : (before after : List Entry) (c : ℕ) → log ≡ before ++ halting c ∷ after

@@ -13,5 +13,7 @@ pub mod Made
 pub mod FromC
 -- the same for a rule that is kept in a book
 pub mod Found
+-- M-105: the two modes compared
+pub mod Modes
 -- the marked runs
 pub mod Marked

@@ -3,7 +3,7 @@
 use Prim.Native.Nat.{ℕ, suc}
 use mathlib.Core.List.{List, [], _∷_}
 use lib.ListN.{length, take, replicate}
-use Rattle.rule.specs.Drawing.{Drawing, stateNo, eventNo}
+use Rattle.rule.specs.Drawing.{Drawing, inMode, stateNo, eventNo}
 use Rattle.rule.specs.declared.Pair.{Pair}
 use Rattle.rule.specs.declared.Operation.{Operation}
 use Rattle.rule.specs.declared.Operation.the-variants.{Halt, Store, Dump}
@@ -44,6 +44,13 @@ O = rule 3 3 3 (1 ∷ 2 ∷ 0 ∷ 1 ∷ 1 ∷ 1 ∷ 2 ∷ 2 ∷ 2 ∷ []) (pair 
 
 abbrev pub D : Drawing
 D = rule 4 2 1 (1 ∷ 1 ∷ []) (pair 0b01 0 ∷ [])
+
+-- rule J, of joint mode (M-105): both pairs accept 0, from which nothing comes back, and 3; from 2 each pair has hope, of 4 and of 5, and both together none
+abbrev pub J : Drawing
+J =
+    inMode 1
+    (rule 3 6 3 (0 ∷ 1 ∷ 2 ∷ 1 ∷ 3 ∷ 2 ∷ 4 ∷ 5 ∷ 2 ∷ 3 ∷ 3 ∷ 3 ∷ 4 ∷ 4 ∷ 4 ∷ 5 ∷ 5 ∷ 5 ∷ [])
+    (pair 0b011000 0b000001 ∷ pair 0b101000 0b000001 ∷ []))
 
 -- where a run stands after some calls
 pub record Stand : Type 0 where
@@ -120,6 +127,15 @@ marked =
     ∷ row O (2 ∷ 2 ∷ []) [] (2 ∷ 2 ∷ []) 0
     ∷ row O (0 ∷ []) [] [] 1
     ∷ row D (0 ∷ []) [] [] 1
+    ∷ []
+
+-- runs of J: it dumps, stores and dumps; it dumps, stores and halts where mode 0 goes on storing
+abbrev pub markedJoint : List Row
+markedJoint =
+    row J (0 ∷ 1 ∷ 1 ∷ []) (0 ∷ 1 ∷ 1 ∷ []) [] 0
+    ∷ row J (0 ∷ 1 ∷ 2 ∷ []) (0 ∷ []) (1 ∷ []) 3
+    ∷ row J (0 ∷ 1 ∷ 2 ∷ 1 ∷ []) (0 ∷ []) (1 ∷ []) 3
+    ∷ row (inMode 0 J) (0 ∷ 1 ∷ 2 ∷ []) (0 ∷ []) (1 ∷ 2 ∷ []) 0
     ∷ []
 
 -- what each row's run comes to, on the sheet made from its rule, and what is expected

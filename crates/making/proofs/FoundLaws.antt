@@ -5,7 +5,8 @@ use mathlib.Core.Path.{_≡_, sym, _∙_}
 use mathlib.Core.List.{List}
 use lib.ListN.{length, getD, take, drop}
 use Rattle.rule.specs.Drawing.{states, body}
-use Rattle.rule.specs.Operations.{reachOf, operationAt}
+use Rattle.rule.specs.Operations.{reachOf, operationPairs, operationJoint, operationAt}
+use Rattle.rule.specs.Acceptance.{goodOf}
 use Rattle.rule.specs.declared.Refusal.{Refusal}
 use Rattle.rule.specs.declared.Verdict.the-variants.{Sound, Refused}
 use Rattle.rule.proofs.RefusalLaws.{first-sound}
@@ -67,7 +68,7 @@ module _ (f : List ℕ) (p : Contents) (is : p ≡ partsOf f) where
     -- the sheet of the parts is that of the drawing
     pub made : {out : List ℕ} {w : Written} {out′ : List ℕ}
         → PutPromise Sound (sheetOf (body (p .shape) (take (p .end - p .start) (drop (p .start) f)) (p .pairs))) out w out′ → MakePromise f out w out′
-    unfolding sheetOf operationAt reachOf
+    unfolding sheetOf operationAt operationPairs operationJoint goodOf reachOf
     made q = rw (sound-is, ← parts .table-is, ← parts .pairs-is, ← parts .drawn) q
 
   pub made-refused : (out : List ℕ) {r : Refusal} → p .verdict ≡ Refused r → MakePromise f out (Declined r) out

@@ -12,6 +12,9 @@ operation-one-answer κs a x y = (x .told ∙ sym (y .told), refl)
 pub Marks-at-one-answer : OneAnswer proofs.Marks.at.ended proofs.Marks.at.Reads.Learnt
 Marks-at-one-answer κs a x y = (x .told ∙ sym (y .told), refl)
 
+pub good-states-one-answer : OneAnswer proofs.good_states.ended proofs.good_states.Reads.Learnt
+good-states-one-answer κs a x y = (x .told ∙ sym (y .told), refl)
+
 pub mark-states-one-answer : OneAnswer proofs.mark_states.ended proofs.mark_states.Reads.Learnt
 mark-states-one-answer κs a x y = (x .told ∙ sym (y .told), refl)
 

@@ -5,13 +5,15 @@ ghost use Rattle.rule.specs.Backward.{lostBy};
 ghost use Rattle.rule.specs.Drawing.{body};
 ghost use Rattle.rule.specs.Operations.{valueOf, smallestOf};
 ghost use Rattle.rule.specs.Reach.{target};
-ghost use Rattle.rule.specs.Sets.{Members};
+ghost use Rattle.rule.specs.Acceptance.{meetsAll};
+ghost use Rattle.rule.specs.Sets.{Members, those};
 ghost use Rattle.rule.specs.Stopping.{stopsBy};
-ghost use Rattle.operations.specs.Marks.{operationIn, marksOf};
+ghost use Rattle.operations.specs.Marks.{operationIn, lostPairs, marksOf};
 use reach::backward;
 use reach::sets::contains;
 use rule::Operation;
 use rule::Pair;
+use rule::Rule;
 use rule::Shape;
 use rule::StateNo;
 
@@ -59,7 +61,7 @@ pub fn operation(pairs: [Pair; 8], count: u8, reached: u64, target: StateNo) -> 
     least
 }
 
-// The states that every pair accepts, and those where some pair halts.
+// The states that every pair accepts, and those where a move halts.
 pub struct Marks {
     pub good: u64,
     pub halt: u64,
@@ -87,20 +89,45 @@ fn lost_by(table: &[u8], states: u8, events: u8, pair: Pair) -> u64
     !(pair.p | backward(table, states, events, pair.r))
 }
 
-// What a move into each state of a rule does: from each R one backward reach at a time.
-pub fn mark_states(shape: Shape, table: &[u8], pairs: [Pair; 8]) -> Marks
-    ensures { λ r. ⌜ r ≡ marksOf (body shape (now (table .entry)) pairs) ⌝ }
+// The states that the first `count` pairs accept, all of them.
+pub fn good_states(pairs: [Pair; 8], count: u8) -> u64
+    ensures { λ r. ⌜ r ≡ those (meetsAll (take count pairs)) 64 ⌝ }
+{
+    let mut rest: usize = if count < 8 { count as usize } else { 8 };
+    let mut good: u64 = 0xffff_ffff_ffff_ffff;
+    while 0 < rest {
+        rest -= 1;
+        let pair = pairs[rest];
+        good = (pair.r | pair.p) & good;
+    }
+    good
+}
+
+// The states that are lost by one of the pairs: from each R one backward reach at a time.
+fn lost_states(shape: Shape, table: &[u8], pairs: [Pair; 8]) -> u64
+    ensures { λ r. ⌜ r ≡ those (lostPairs (body shape (now (table .entry)) pairs)) 64 ⌝ }
 {
     let count = shape.pairs;
     let mut left: usize = if count < 8 { count as usize } else { 8 };
-    let mut good: u64 = 0xffff_ffff_ffff_ffff;
     let mut halt: u64 = 0;
     while 0 < left {
         left -= 1;
         let pair = pairs[left];
-        good = (pair.r | pair.p) & good;
         halt = lost_by(table, shape.states, shape.events, pair) | halt;
     }
+    halt
+}
+
+// What a move into each state of a rule does. In joint mode there is one backward reach, from the states that every pair accepts.
+pub fn mark_states(shape: Shape, table: &[u8], pairs: [Pair; 8]) -> Marks
+    ensures { λ r. ⌜ r ≡ marksOf (body shape (now (table .entry)) pairs) ⌝ }
+{
+    let good = good_states(pairs, shape.pairs);
+    if shape.mode == Rule::JOINT {
+        let back = backward(table, shape.states, shape.events, good);
+        return Marks { good, halt: !back };
+    }
+    let halt = lost_states(shape, table, pairs);
     Marks { good, halt }
 }
 

@@ -8,6 +8,7 @@ use lib.ListN.{length, take, drop}
 use Rattle.rule.specs.Drawing.{body}
 use Rattle.rule.specs.Reach.{target}
 use Rattle.rule.specs.Refusals.{toldOf}
+use Rattle.rule.specs.Acceptance.{goodOf}
 use Rattle.operations.specs.Marks.{operationIn, marksOf}
 use Rattle.operations.specs.declared.Marks.{Marks}
 use Rattle.rule.specs.declared.Refusal.{Refusal}
@@ -53,7 +54,7 @@ module _ (f : List ℕ) where
   module _ {p : Contents} (is : p ≡ partsOf f) {l : Marks}
       (found : l ≡ marksOf (body (p .shape) (take (p .end - p .start) (drop (p .start) f)) (p .pairs))) where
     same : verdictOn f ≡ Sound → l ≡ marksOf (drawingIn f)
-    unfolding marksOf
+    unfolding marksOf goodOf
     same v = let s = sound-parts f is (parts-verdict f is ∙ v) in found ∙ rw (s .table-is, s .pairs-is, s .drawn)
 
     abbrev text : List ℕ

@@ -4,7 +4,7 @@ use native.Mathlib.Omega.{arith}
 use lib.Dec.{leb, ltb, eqb}
 use borrow.Author.Tests.{eqb-true, eqb-false, eq-eqb, ne-eqb, leb-true, leb-false, le-leb, lt-leb, ltb-true, ltb-false, lt-ltb, le-ltb}
 use mathlib.Core.Path.{_≡_, refl}
-use mathlib.Core.Bool.{Bool, true, false, not, _&&_, _||_}
+use mathlib.Core.Bool.{Bool, true, false, cond, not, _&&_, _||_}
 use mathlib.Core.Logic.{_⊎_, inl, inr, ⊎-elim, _↔_, Iff·trans}
 
 -- no test both holds and fails
@@ -19,6 +19,11 @@ not-so false n = refl
 pub so : (b : Bool) → (b ≡ false → ⊥) → b ≡ true
 so true n = refl
 so false n = absurd (n refl)
+
+-- what is so of both is so of the one that a test chooses
+pub chosen : {A : Type 0} (P : A → Type 0) (b : Bool) {x y : A} → (b ≡ true → P x) → (b ≡ false → P y) → P (cond b x y)
+chosen P true f g = f refl
+chosen P false f g = g refl
 
 -- a test, or one that fails
 pub or-false : (b : Bool) → b ≡ b || false

@@ -10,25 +10,26 @@ use lib.Dec.{leb}
 use borrow.Author.Tests.{leb-true, le-leb}
 use Rattle.rule.specs.Sets.{has, isEmpty, namesPast}
 use Rattle.rule.specs.Reach.{Closed}
-use Rattle.rule.specs.Drawing.{Drawing, states, events, count, initial, next, pairAt, stateNo, eventNo}
+use Rattle.rule.specs.Drawing.{Drawing, states, events, count, initial, next, pairAt, joint, stateNo, eventNo}
 use Rattle.rule.specs.Operations.{reachOf}
-use Rattle.rule.specs.Stopping.{stopsBy}
+use Rattle.rule.specs.Stopping.{stopsBy, stoppingJoint}
 use Rattle.rule.specs.Classes.{movesInto, movesOut, forbids, forbidsSome}
 use Rattle.rule.specs.Published.{In, Out}
-use Rattle.rule.specs.Refusals.{refuseIf, firstBelow, firstCell, entries, memberAt, members, exceeds, excess, moves, stopped, empties, firstOf}
+use Rattle.rule.specs.Refusals.{refuseIf, orElse, firstBelow, firstCell, entries, memberAt, members, exceeds, excess, moves, stoppedPairs, stoppedJoint, stopped, empties, firstOf}
 use Rattle.rule.specs.Refusals.{conditions}
 use Rattle.rule.specs.Given.{FirstCell, LowestPair, NoCell, NoPair, BadEntry, Names, BadPair, BadSide, by-R, only-P, BadMember, TooMuch, with-R}
-use Rattle.rule.specs.Given.{with-P, Forbidden, into-P, out-of-R, StopsBy, BothEmpty}
+use Rattle.rule.specs.Given.{with-P, Forbidden, into-P, out-of-R, StopsBy, Stops, by-pair, jointly, Named, lowest, no-single, StoppedBy, BothEmpty}
+use Rattle.rule.specs.Joint.{JointStop}
 use Rattle.rule.specs.declared.Pair.{Pair}
 use Rattle.rule.specs.declared.Refusal.{Refusal}
 use Rattle.rule.specs.declared.Refusal.the-variants.{Entry, Member, Excess, Move, Stopping, Empty}
 use Rattle.rule.specs.declared.Verdict.{Verdict}
 use Rattle.rule.specs.declared.Verdict.the-variants.{Sound, Refused}
-use Rattle.rule.proofs.BoolLaws.{clash, not-so, Says, itself, eq-says, and-says, or-says, not-says, ne-says, in-words}
+use Rattle.rule.proofs.BoolLaws.{clash, not-so, chosen, Says, itself, eq-says, eq-fails, and-says, or-says, not-says, ne-says, in-words}
 use Rattle.rule.proofs.SetLaws.{below-or, true-or, names-iff}
 use Rattle.rule.proofs.PairLaws.{Some, some-says}
-use Rattle.rule.proofs.StoppingLaws.{stops-says}
-use Rattle.rule.proofs.RefusalLaws.{sound-or, refuse-sound, refuse-refused, else-sound, below-sound-iff, below-refused-iff, cells-sound-iff}
+use Rattle.rule.proofs.StoppingLaws.{stops-says, joint-stops}
+use Rattle.rule.proofs.RefusalLaws.{not-both, sound-or, refuse-sound, refuse-refused, else-sound, below-sound-iff, below-refused-iff, cells-sound-iff}
 use Rattle.rule.proofs.RefusalLaws.{cells-refused-iff, first-sound}
 
 -- a verdict that refuses exactly where there is the fault
@@ -326,17 +327,98 @@ module _ (d : Drawing) (closed : Closed (d .table) (states d) (events d)) (small
       (λ g. record { outside = g .0; reaches-none = g .1 })
       (λ g. (g .outside, g .reaches-none))
 
-  pub stopped-sound : (stopped d ≡ Sound) ↔ NoPair d (StopsBy d (initial d))
-  unfolding stopped
-  stopped-sound =
+  alone-sound : (stoppedPairs d ≡ Sound) ↔ NoPair d (StopsBy d (initial d))
+  unfolding stoppedPairs
+  alone-sound =
       pair-tests-sound d (stopTest d) Stopping (StopsBy d (initial d))
       (λ i h. stop-says i)
 
-  pub stopped-refused : (x : Refusal) → (stopped d ≡ Refused x) ↔ ((i : ℕ) × (Stopping i ≡ x) × LowestPair d (StopsBy d (initial d)) i)
-  unfolding stopped
-  stopped-refused =
+  alone-refused : (x : Refusal) → (stoppedPairs d ≡ Refused x) ↔ ((i : ℕ) × (Stopping i ≡ x) × LowestPair d (StopsBy d (initial d)) i)
+  unfolding stoppedPairs
+  alone-refused =
       pair-tests-refused d (stopTest d) Stopping (StopsBy d (initial d))
       (λ i h. stop-says i)
+
+  -- in mode 0
+  module _ (n : d .shape .mode ≡ 1 → ⊥) where
+    some-pair : Stops d (initial d) → NoPair d (StopsBy d (initial d)) → ⊥
+    some-pair (by-pair m i h s) none = none i h s
+    some-pair (jointly m s) none = n m
+
+    pairs-refuse : (i : ℕ) → StoppedBy d i ↔ LowestPair d (StopsBy d (initial d)) i
+    pairs-refuse i = (
+      λ s. by (s .named) (s .stops),
+      λ l. record { stops = by-pair n i (l .used) (l .fault); named = lowest l },
+    )
+      where
+        by : {i : ℕ} → Named d (StopsBy d (initial d)) i → Stops d (initial d) → LowestPair d (StopsBy d (initial d)) i
+        by (lowest l) s = l
+        by (no-single none) s = absurd (some-pair s none)
+
+  -- in joint mode
+  module _ (j : d .shape .mode ≡ 1) (whole : length (d .pairs) ≡ count d) where
+    joint-says : Says (stoppingJoint d (initial d)) (Stops d (initial d))
+    joint-says = in-words (joint-stops d closed small whole (initial d) start) (jointly j) from
+      where
+        from : Stops d (initial d) → JointStop d (initial d)
+        from (by-pair m i h s) = absurd (m j)
+        from (jointly m s) = s
+
+    -- the pair that is named
+    named-pair : (x : Refusal) → (orElse (stoppedPairs d) (Refused (Stopping (count d))) ≡ Refused x)
+        ↔ ((i : ℕ) × (Stopping i ≡ x) × Named d (StopsBy d (initial d)) i)
+    named-pair x = (
+      λ p. sound-or (stoppedPairs d)
+          (λ s. (count d, let q : Refused (Stopping (count d)) ≡ Refused x = rw s at p in cc, no-single (alone-sound .0 s)))
+          (λ r q.
+          let l = alone-refused x .0 (q ∙ rw q at p) in
+          (l .0, l .1, lowest (l .2))),
+      λ g. rw (← (g .1)) (by (g .2)),
+    )
+      where
+        by : {i : ℕ} → Named d (StopsBy d (initial d)) i → orElse (stoppedPairs d) (Refused (Stopping (count d))) ≡ Refused (Stopping i)
+        by (lowest {i = i} l) = rw (alone-refused (Stopping i) .1 (i, refl, l))
+        by (no-single none) = rw (alone-sound .1 none)
+
+    jointly-sound : (stoppedJoint d ≡ Sound) ↔ (Stops d (initial d) → ⊥)
+    unfolding stoppedJoint
+    jointly-sound = (
+      λ p s. let t = joint-says .1 s in
+          sound-or (stoppedPairs d)
+          (λ a. not-both (rw (t, a) at p) refl)
+          (λ r a. not-both (rw (t, a) at p) refl),
+      λ n. rw (not-so (stoppingJoint d (initial d)) (λ p. n (joint-says .0 p))),
+    )
+
+    jointly-refused : (x : Refusal) → (stoppedJoint d ≡ Refused x) ↔ ((i : ℕ) × (Stopping i ≡ x) × StoppedBy d i)
+    unfolding stoppedJoint
+    jointly-refused x = (
+      λ p. true-or (stoppingJoint d (initial d))
+          (λ t. let g = named-pair x .0 (rw t at p) in (g .0, g .1, record { stops = joint-says .0 t; named = g .2 }))
+          (λ o. not-both refl (rw o at p)),
+      λ g. rw (joint-says .1 (g .2 .stops)) (named-pair x .1 (g .0, g .1, g .2 .named)),
+    )
+
+  module _ (whole : length (d .pairs) ≡ count d) where
+    pub stopped-sound : (stopped d ≡ Sound) ↔ (Stops d (initial d) → ⊥)
+    unfolding stopped
+    stopped-sound =
+        chosen (λ v. (v ≡ Sound) ↔ (Stops d (initial d) → ⊥)) (joint d)
+        (λ t. jointly-sound (eq-says (d .shape .mode) 1 .0 t) whole)
+        (λ o. let n = eq-fails (d .shape .mode) 1 .0 o in (
+          λ p s. some-pair n s (alone-sound .0 p),
+          λ none. alone-sound .1 (λ i h s. none (by-pair n i h s)),
+        ))
+
+    pub stopped-refused : (x : Refusal) → (stopped d ≡ Refused x) ↔ ((i : ℕ) × (Stopping i ≡ x) × StoppedBy d i)
+    unfolding stopped
+    stopped-refused x =
+        chosen (λ v. (v ≡ Refused x) ↔ ((i : ℕ) × (Stopping i ≡ x) × StoppedBy d i)) (joint d)
+        (λ t. jointly-refused (eq-says (d .shape .mode) 1 .0 t) whole x)
+        (λ o. let n = eq-fails (d .shape .mode) 1 .0 o in (
+          λ p. let l = alone-refused x .0 p in (l .0, l .1, pairs-refuse n (l .0) .1 (l .2)),
+          λ l. alone-refused x .1 (l .0, l .1, pairs-refuse n (l .0) .0 (l .2)),
+        ))
 
 -- 10
 

@@ -8,9 +8,10 @@ pub mod MoveLaws
 pub mod CountLaws
 pub mod WayLaws
 pub mod ReachLaws
--- the lowest number where a test holds, the shortest way into a set, and backward reach
+-- the shortest way into a set
 pub mod LeastLaws
 pub mod ShortestLaws
+-- backward reach
 pub mod BackwardLaws
 -- refusals: which is first, when each is given, and their numbers
 pub mod BoolLaws
@@ -25,7 +26,10 @@ pub mod PairLaws
 pub mod OrderLaws
 pub mod StoppingLaws
 pub mod ClassLaws
+pub mod PairwiseLaws
+pub mod JointLaws
 pub mod OperationLaws
+pub mod ModeLaws
 -- the published constructions
 pub mod PublishedLaws
 pub mod ConstructionLaws

@@ -8,17 +8,17 @@ use mathlib.Core.Logic.{_⊎_, inl, inr, ⊎-elim}
 use lib.Dec.{leb}
 use borrow.Author.Tests.{eq-eqb}
 use Rattle.rule.specs.Sets.{isEmpty, namesPast}
-use Rattle.rule.specs.Drawing.{Drawing, stateNo, eventNo, states, initial, next, pairAt}
+use Rattle.rule.specs.Drawing.{Drawing, stateNo, eventNo, states, count, initial, next, pairAt, joint}
 use Rattle.rule.specs.Operations.{reachOf}
-use Rattle.rule.specs.Stopping.{stopsBy}
+use Rattle.rule.specs.Stopping.{stopsBy, stoppingJoint}
 use Rattle.rule.specs.Classes.{forbidsSome}
 use Rattle.rule.specs.Refusals.{toldOf, among, Numbered, refuseIf, orElse, firstOf, firstBelow, firstCell, entries, members, exceeds, excess}
-use Rattle.rule.specs.Refusals.{moves, stopped, empties, conditions, conditionsOrder}
+use Rattle.rule.specs.Refusals.{moves, stoppedPairs, stoppedJoint, stopped, empties, conditions, conditionsOrder}
 use Rattle.rule.specs.declared.Refusal.{Refusal}
 use Rattle.rule.specs.declared.Refusal.the-variants.{Entry, Member, Excess, Move, Stopping, Empty}
 use Rattle.rule.specs.declared.Verdict.{Verdict}
 use Rattle.rule.specs.declared.Verdict.the-variants.{Sound, Refused}
-use Rattle.rule.proofs.BoolLaws.{Says, clash, eq-says, or-says, itself}
+use Rattle.rule.proofs.BoolLaws.{Says, clash, chosen, eq-says, or-says, itself}
 use Rattle.rule.proofs.RefusalLaws.{not-both, refuse-refused}
 
 -- of the numbers in a list, and in two in a row
@@ -103,9 +103,18 @@ module _ (d : Drawing) where
   unfolding moves
   moves-give = cell-gives _ _ _ (λ s e. test-gives (forbidsSome (d .shape .class) (d .pairs) s (next d s e)) (Move (stateNo s) (eventNo e)) refl)
 
+  pairs-give : Gives (9 ∷ []) (stoppedPairs d)
+  unfolding stoppedPairs
+  pairs-give = below-gives _ _ (λ i. test-gives (stopsBy (pairAt d i) (reachOf d (initial d)) (initial d)) (Stopping i) refl)
+
   pub stopped-gives : Gives (9 ∷ []) (stopped d)
-  unfolding stopped
-  stopped-gives = below-gives _ _ (λ i. test-gives (stopsBy (pairAt d i) (reachOf d (initial d)) (initial d)) (Stopping i) refl)
+  unfolding stopped stoppedJoint
+  stopped-gives =
+      chosen (Gives (9 ∷ [])) (joint d)
+      (λ j. chosen (Gives (9 ∷ [])) (stoppingJoint d (initial d))
+      (λ t. else-gives (stoppedPairs d) _ pairs-give (test-gives true (Stopping (count d)) refl))
+      (λ o. sound-gives))
+      (λ n. pairs-give)
 
   pub empties-give : Gives (10 ∷ []) (empties d)
   unfolding empties

@@ -1,206 +1,61 @@
--- The laws of the operation, for any number of pairs: it dumps exactly at an accepting target and halts exactly at a stopping one.
+-- The laws of the operation, over both modes: it dumps exactly at an accepting target and halts exactly at a stopping one.
 -- With them a drawing is a machine that keeps the laws. Assumes nothing.
-use Prim.Native.Nat.{ℕ, zero, suc, _<_}
-use native.Mathlib.Omega.{arith}
-use mathlib.Core.Path.{_≡_, refl, _∙_}
-use mathlib.Core.Bool.{Bool, true, false, cond, not, _&&_, _||_}
+use Prim.Native.Nat.{ℕ, _<_}
+use mathlib.Core.Path.{_≡_, refl}
+use mathlib.Core.Bool.{Bool, true, false, cond}
 use mathlib.Core.List.{List, [], _∷_}
-use mathlib.Core.Logic.{_⊎_, inl, inr, ⊎-elim, _↔_}
-use lib.ListN.{length, getD}
-use Rattle.rule.specs.Sets.{has, meets}
-use Rattle.rule.specs.Reach.{after, Events, none, more}
-use Rattle.rule.specs.Drawing.{Drawing, states, events, count, next, pairAt, noPair}
-use Rattle.rule.specs.Acceptance.{meetsPair, meetsAll, accepts}
-use Rattle.rule.specs.Operations.{greater, smaller, valueOf, smallestOf, reachOf, operationAt, operation}
-use Rattle.rule.specs.Stopping.{stopsBy, stopsBySome, stopping}
-use Rattle.rule.specs.Published.{ObligationStop}
-use Rattle.rule.specs.Machine.{machineOf, acceptsBy, Laws, Sharp}
+use mathlib.Core.Logic.{_⊎_, ⊎-elim, _↔_}
+use Rattle.rule.specs.Drawing.{Drawing, states, events, count, next, joint}
+use Rattle.rule.specs.Acceptance.{meetsAll, accepts}
+use Rattle.rule.specs.Operations.{operationPairs, operationJoint, operationAt, operation}
+use Rattle.rule.specs.Stopping.{stoppingPairs, stoppingJoint, stopping}
+use Rattle.rule.specs.Machine.{machineBy, machineOf, acceptsBy, Laws, Sharp}
 use Rattle.rule.specs.WellDrawn.{WellDrawn}
-use Rattle.rule.specs.declared.Pair.{Pair}
 use Rattle.rule.specs.declared.Operation.{Operation}
-use Rattle.rule.specs.declared.Operation.the-variants.{Halt, Store, Dump}
-use Rattle.rule.proofs.BoolLaws.{clash, not-so, Says, itself, and-says, or-says}
-use Rattle.rule.proofs.StoppingLaws.{reaches-says, stopping-says}
+use Rattle.rule.specs.declared.Operation.the-variants.{Halt, Dump}
+use Rattle.rule.proofs.BoolLaws.{clash, eq-says}
+use Rattle.rule.proofs.PairwiseLaws.{pairs-dump, pairs-halt, pairs-stays, pairs-laws, pairs-sharp}
+use Rattle.rule.proofs.JointLaws.{joint-dump, joint-halt, joint-stays, joint-laws, joint-sharp}
 
--- no operation is two
-apart : {A : Type 0} {o : Operation} → o ≡ Halt → o ≡ Dump → A
-apart p q = absurd (let z : _≡_ {A = ℕ} 0 1 = cc in omega arith)
-
--- the order
-
-pub smaller-dump : (a b : Operation) → (smaller a b ≡ Dump) ↔ ((a ≡ Dump) × (b ≡ Dump))
-smaller-dump a b = (to a b, λ p. rw (p .0, p .1))
+-- what holds of the operation and the stopping states of both modes holds of those of the drawing
+pub by-mode : (d : Drawing) (P : (ℕ → Operation) → (ℕ → Bool) → Type 0) → (joint d ≡ false → P (operationPairs d) (stoppingPairs d))
+    → (joint d ≡ true → P (operationJoint d) (stoppingJoint d)) → P (operationAt d) (stopping d)
+unfolding operationAt stopping
+by-mode d P pairs all = by (joint d) pairs all
   where
-    to : (a b : Operation) → smaller a b ≡ Dump → (a ≡ Dump) × (b ≡ Dump)
-    to Halt b h = apart refl h
-    to Store Halt h = apart refl h
-    to Store Store h = absurd (let z : _≡_ {A = ℕ} 0 1 = cc in omega arith)
-    to Store Dump h = absurd (let z : _≡_ {A = ℕ} 0 1 = cc in omega arith)
-    to Dump b h = (refl, h)
-
-pub smaller-halt : (a b : Operation) → (smaller a b ≡ Halt) ↔ ((a ≡ Halt) ⊎ (b ≡ Halt))
-smaller-halt a b = (to a b, ⊎-elim (λ p. rw p) (λ p. rw p (right a)))
-  where
-    to : (a b : Operation) → smaller a b ≡ Halt → (a ≡ Halt) ⊎ (b ≡ Halt)
-    to Halt b h = inl refl
-    to Store Halt h = inr refl
-    to Store Store h = absurd (let z : _≡_ {A = ℕ} 0 1 = cc in omega arith)
-    to Store Dump h = absurd (let z : _≡_ {A = ℕ} 0 1 = cc in omega arith)
-    to Dump b h = inr h
-
-    right : (a : Operation) → smaller a Halt ≡ Halt
-    right Halt = refl
-    right Store = refl
-    right Dump = refl
-
--- a pair's value: dump where the target lies in R or P, halt where it does not and reaches no state of R
-
-module _ (p : Pair) (reached t : ℕ) where
-  value-dump : (valueOf p reached t ≡ Dump) ↔ (meetsPair p t ≡ true)
-  unfolding valueOf meetsPair
-  value-dump = by (has (p .p) t) (has (p .r) t) (meets reached (p .r))
-    where
-      by : (a b c : Bool) → (greater (cond a Dump Halt) (cond b Dump (cond c Store Halt)) ≡ Dump) ↔ (b || a ≡ true)
-      by true true c = (λ h. refl, λ h. refl)
-      by true false c = (λ h. refl, λ h. refl)
-      by false true c = (λ h. refl, λ h. refl)
-      by false false true = (λ h. absurd (let z : _≡_ {A = ℕ} 0 1 = cc in omega arith), λ h. clash h refl)
-      by false false false = (λ h. apart refl h, λ h. clash h refl)
-
-  value-halt : (has (p .r) t ≡ true → meets reached (p .r) ≡ true) → (valueOf p reached t ≡ Halt) ↔ (stopsBy p reached t ≡ true)
-  unfolding valueOf stopsBy
-  value-halt = by (has (p .p) t) (has (p .r) t) (meets reached (p .r))
-    where
-      by : (a b c : Bool) → (b ≡ true → c ≡ true) → (greater (cond a Dump Halt) (cond b Dump (cond c Store Halt)) ≡ Halt) ↔ (not a && not c ≡ true)
-      by true b c i = (λ h. apart h refl, λ h. clash h refl)
-      by false true true i = (λ h. apart h refl, λ h. clash h refl)
-      by false true false i = clash (i refl) refl
-      by false false true i = (λ h. absurd (let z : _≡_ {A = ℕ} 0 1 = cc in omega arith), λ h. clash h refl)
-      by false false false i = (λ h. refl, λ h. refl)
-
--- the smallest value: dump where the target lies in R or P of every pair
-
-pub smallest-dump : (ps : List Pair) (reached t : ℕ) → (smallestOf ps reached t ≡ Dump) ↔ (meetsAll ps t ≡ true)
-unfolding smallestOf meetsAll
-smallest-dump [] reached t = (λ h. refl, λ h. refl)
-smallest-dump (p ∷ ps) reached t =
-    let both = and-says (itself (meetsPair p t)) (itself (meetsAll ps t)) in
-    let least = smaller-dump (valueOf p reached t) (smallestOf ps reached t) in (
-      λ h. both .1 (value-dump p reached t .0 (least .0 h .0), smallest-dump ps reached t .0 (least .0 h .1)),
-      λ h. least .1 (value-dump p reached t .1 (both .0 h .0), smallest-dump ps reached t .1 (both .0 h .1)),
-    )
-
--- and halt where it is stopping by some pair
-
-smallest-halt : (ps : List Pair) (reached t : ℕ) → ((x : ℕ) → has x t ≡ true → meets reached x ≡ true)
-    → (smallestOf ps reached t ≡ Halt) ↔ (stopsBySome ps reached t ≡ true)
-unfolding smallestOf stopsBySome
-smallest-halt [] reached t here = (λ h. apart h refl, λ h. clash h refl)
-smallest-halt (p ∷ ps) reached t here =
-    let either = or-says (itself (stopsBy p reached t)) (itself (stopsBySome ps reached t)) in
-    let least = smaller-halt (valueOf p reached t) (smallestOf ps reached t) in
-    let one = value-halt p reached t (here (p .r)) in
-    let rest = smallest-halt ps reached t here in (
-      λ h. either .1 (⊎-elim (λ a. inl (one .0 a)) (λ a. inr (rest .0 a)) (least .0 h)),
-      λ h. least .1 (⊎-elim (λ a. inl (one .1 a)) (λ a. inr (rest .1 a)) (either .0 h)),
-    )
-
--- an accepting state lies in R or P of each pair
-accepts-each : (ps : List Pair) (t : ℕ) → meetsAll ps t ≡ true → (i : ℕ) → i < length ps → meetsPair (getD ps i noPair) t ≡ true
-unfolding meetsAll
-accepts-each [] t h i k = absurd (omega arith)
-accepts-each (p ∷ ps) t h zero k = and-says (itself (meetsPair p t)) (itself (meetsAll ps t)) .0 h .0
-accepts-each (p ∷ ps) t h (suc i) k = accepts-each ps t (and-says (itself (meetsPair p t)) (itself (meetsAll ps t)) .0 h .1) i (omega arith)
-
--- and one of R or P is enough where there is one pair
-in-pair : (p : Pair) (t : ℕ) → (has (p .r) t ≡ true) ⊎ (has (p .p) t ≡ true) → meetsPair p t ≡ true
-unfolding meetsPair
-in-pair p t = or-says (itself (has (p .r) t)) (itself (has (p .p) t)) .1
-
-one-accepts : (ps : List Pair) (t : ℕ) → length ps ≡ 1 → meetsPair (getD ps 0 noPair) t ≡ true → meetsAll ps t ≡ true
-unfolding meetsAll
-one-accepts [] t one m = absurd (omega arith)
-one-accepts (p ∷ []) t one m = rw m
-one-accepts (p ∷ (q ∷ ps)) t one m = absurd (omega arith)
-
--- of a drawing
-
-pub operation-dump : (d : Drawing) (t : ℕ) → (operationAt d t ≡ Dump) ↔ (meetsAll (d .pairs) t ≡ true)
-unfolding operationAt
-operation-dump d t = smallest-dump (d .pairs) (reachOf d t) t
+    by : (b : Bool) → (b ≡ false → P (operationPairs d) (stoppingPairs d)) → (b ≡ true → P (operationJoint d) (stoppingJoint d))
+        → P (λ t. cond b (operationJoint d t) (operationPairs d t)) (λ q. cond b (stoppingJoint d q) (stoppingPairs d q))
+    by true pairs all = all refl
+    by false pairs all = pairs refl
 
 module _ (d : Drawing) (well : WellDrawn d) where
-  -- q reaches itself: zero moves count
-  here : (q : ℕ) → q < states d → (x : ℕ) → has x q ≡ true → meets (reachOf d q) x ≡ true
-  here q h x m =
-      reaches-says d (well .closed) (well .few-states) q h x .1
-      (record { state = q; member = m; leads = record { way = []; known = none; ends = refl } })
+  pub operation-dump : (t : ℕ) → t < states d → (operationAt d t ≡ Dump) ↔ (meetsAll (d .pairs) t ≡ true)
+  operation-dump =
+      by-mode d (λ o s. (t : ℕ) → t < states d → (o t ≡ Dump) ↔ (meetsAll (d .pairs) t ≡ true)) (λ m t h. pairs-dump d t) (λ m. joint-dump d well)
 
   -- a move into t halts exactly where t is stopping
   pub operation-halt : (t : ℕ) → t < states d → (operationAt d t ≡ Halt) ↔ (stopping d t ≡ true)
-  unfolding operationAt stopping
-  operation-halt t h = smallest-halt (d .pairs) (reachOf d t) t (here t h)
-
-  -- where that is: for some pair outside P and reaching no state of R
-  pub stop-says : (q : ℕ) → q < states d → Says (stopping d q) (ObligationStop d q)
-  stop-says q h = stopping-says d (well .closed) (well .few-states) q h (well .whole)
-
-  stop-stays : (q e : ℕ) → q < states d → e < events d → ObligationStop d q → ObligationStop d (next d q e)
-  stop-stays q e h k s = record {
-    pair = s .pair;
-    used = s .used;
-    outside = well .none-into (s .pair) (s .used) q e h k (s .outside);
-    reaches-none = λ g. s .reaches-none (record {
-      state = g .state;
-      member = g .member;
-      leads = record { way = e ∷ g .leads .way; known = more k (g .leads .known); ends = g .leads .ends };
-    });
-  }
-
-  stop-after : {w : List ℕ} → Events (events d) w → (q : ℕ) → q < states d → ObligationStop d q → ObligationStop d (after (next d) q w)
-  stop-after none q h s = s
-  stop-after (more {e = e} k known) q h s = stop-after known (next d q e) (well .closed q e h k) (stop-stays q e h k s)
-
-  stop-unmet : (q : ℕ) → ObligationStop d q → meetsAll (d .pairs) q ≡ true → ⊥
-  unfolding meetsPair
-  stop-unmet q s m =
-      ⊎-elim
-      (λ r. s .reaches-none (record { state = q; member = r; leads = record { way = []; known = none; ends = refl } }))
-      (λ p. clash p (s .outside))
-      (or-says (itself (has (pairAt d (s .pair) .r) q)) (itself (has (pairAt d (s .pair) .p) q)) .0
-      (accepts-each (d .pairs) q m (s .pair) (omega (arith, s .used, well .whole))))
+  operation-halt =
+      by-mode d (λ o s. (t : ℕ) → t < states d → (o t ≡ Halt) ↔ (s t ≡ true)) (λ m. pairs-halt d well) (λ m. joint-halt d well)
 
   -- the successors of a stopping state are stopping, and every move out of it halts
   pub stopping-stays : (q e : ℕ) → q < states d → e < events d → stopping d q ≡ true → stopping d (next d q e) ≡ true
-  stopping-stays q e h k s = stop-says (next d q e) (well .closed q e h k) .1 (stop-stays q e h k (stop-says q h .0 s))
+  stopping-stays =
+      by-mode d (λ o s. (q e : ℕ) → q < states d → e < events d → s q ≡ true → s (next d q e) ≡ true) (λ m. pairs-stays d well) (λ m. joint-stays d well)
 
   pub stopping-halts : (q e : ℕ) → q < states d → e < events d → stopping d q ≡ true → operation d q e ≡ Halt
   stopping-halts q e h k s = operation-halt (next d q e) (well .closed q e h k) .1 (stopping-stays q e h k s)
 
   -- the drawing as a machine keeps the laws
   pub laws : Laws (machineOf d)
-  laws = record {
-    initial-in = well .initial-in;
-    next-in = well .closed;
-    dump-accepts = λ t h. operation-dump d t .0;
-    accepts-dump = λ t h. operation-dump d t .1;
-    halt-never = λ t h p w known m. stop-unmet (after (next d) t w) (stop-after known t h (stop-says t h .0 (operation-halt t h .0 p))) m;
-    halt-stays = λ t e h k p. stopping-halts t e h k (operation-halt t h .0 p);
-  }
+  laws = by-mode d (λ o s. Laws (machineBy d o)) (λ m. pairs-laws d well) (λ m. joint-laws d well)
 
-  -- with one pair it halts wherever no accepting state is reached
-  pub sharp : count d ≡ 1 → Sharp (machineOf d)
-  sharp one = record {
-    never-halts = λ t h never.
-        let lies : (w : List ℕ) → Events (events d) w → meetsPair (pairAt d 0) (after (next d) t w) ≡ true → ⊥ =
-        λ w known m. never w known (one-accepts (d .pairs) (after (next d) t w) (well .whole ∙ one) m) in
-        operation-halt t h .1 (stop-says t h .1 (record {
-          pair = 0;
-          used = omega arith;
-          outside = not-so (has (pairAt d 0 .p) t) (λ m. lies [] none (in-pair (pairAt d 0) t (inr m)));
-          reaches-none = λ g. lies (g .leads .way) (g .leads .known) (in-pair (pairAt d 0) _ (inl (rw (g .leads .ends) (g .member))));
-        }));
-  }
+  -- with one pair, and in joint mode with any number, it halts wherever no accepting state is reached
+  pub sharp : (d .shape .mode ≡ 1) ⊎ (count d ≡ 1) → Sharp (machineOf d)
+  sharp one =
+      by-mode d (λ o s. Sharp (machineBy d o))
+      (λ m. pairs-sharp d well (⊎-elim (λ j. clash (eq-says (d .shape .mode) 1 .1 j) m) (λ k. k) one))
+      (λ m. joint-sharp d well)
 
 pub accepts-machine : (d : Drawing) (w : List ℕ) → accepts d w ≡ acceptsBy (machineOf d) w
 unfolding accepts

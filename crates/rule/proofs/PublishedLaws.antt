@@ -1,4 +1,4 @@
--- The operation and the stopping states are those of the published constructions, class by class. Assumes nothing.
+-- In mode 0 the operation and the stopping states are those of the published constructions, class by class. Assumes nothing.
 use Prim.Native.Nat.{ℕ, _<_}
 use native.Mathlib.Omega.{arith}
 use mathlib.Core.Path.{_≡_, refl, sym, _∙_}
@@ -8,8 +8,8 @@ use mathlib.Core.Logic.{_↔_}
 use lib.ListN.{length, getD}
 use Rattle.rule.specs.Sets.{has, meets}
 use Rattle.rule.specs.Drawing.{Drawing, states, events, count, next, pairAt, noPair}
-use Rattle.rule.specs.Operations.{greater, smaller, sideP, sideR, valueOf, smallestOf, reachOf, operationAt, operation}
-use Rattle.rule.specs.Stopping.{stopping}
+use Rattle.rule.specs.Operations.{greater, smaller, sideP, sideR, valueOf, smallestOf, reachOf, operationPairs}
+use Rattle.rule.specs.Stopping.{stoppingPairs}
 use Rattle.rule.specs.Classes.{Safety, Guarantee, Response}
 use Rattle.rule.specs.Published.{dump, halt, store, Reaches, ReachesNone, SafetyMove, SafetyStop, GuaranteeMove, GuaranteeStop, Beta}
 use Rattle.rule.specs.Published.{Gamma, PairValue, BelowAll, ObligationMove, infimum, ObligationStop, ResponseMove, as-guarantee, ResponseStop, _⊑_}
@@ -21,7 +21,7 @@ use Rattle.rule.proofs.BoolLaws.{clash, not-so, Says}
 use Rattle.rule.proofs.SetLaws.{true-or, has-none, meets-iff}
 use Rattle.rule.proofs.StoppingLaws.{reaches-says}
 use Rattle.rule.proofs.OrderLaws.{same, left-below, right-below, greater-least, smallest-lower, smallest-greatest}
-use Rattle.rule.proofs.OperationLaws.{stop-says}
+use Rattle.rule.proofs.PairwiseLaws.{stop-says}
 
 -- β is the P side
 beta-iff : (x t : ℕ) (a : Operation) → Beta x t a ↔ (a ≡ cond (has x t) Dump Halt)
@@ -104,23 +104,23 @@ module _ (d : Drawing) (well : WellDrawn d) where
       to (halt o n) = rw (o, not-so (meets (reachOf d t) x) (λ m. n (says .0 m)))
       to (store o r) = rw (o, says .1 r)
 
-  one-operation : count d ≡ 1 → (t : ℕ) → operationAt d t ≡ greater (sideP (pairAt d 0) t) (sideR (pairAt d 0) (reachOf d t) t)
-  unfolding operationAt valueOf
+  one-operation : count d ≡ 1 → (t : ℕ) → operationPairs d t ≡ greater (sideP (pairAt d 0) t) (sideR (pairAt d 0) (reachOf d t) t)
+  unfolding operationPairs valueOf
   one-operation one t = one-value (d .pairs) (reachOf d t) t (well .whole ∙ one)
 
   -- class 1
 
   module _ (s : Safety d) (q e : ℕ) (h : q < states d) (k : e < events d) where
-    safety-operation : operation d q e ≡ sideP (pairAt d 0) (next d q e)
+    safety-operation : operationPairs d (next d q e) ≡ sideP (pairAt d 0) (next d q e)
     safety-operation = one-operation (s .one) (next d q e) ∙ rw (s .no-R, no-side (reachOf d (next d q e)) (next d q e)) (greater-halt _)
 
-    pub safety-moves : (a : Operation) (t : ℕ) → SafetyMove d (pairAt d 0 .p) q e a t ↔ ((a ≡ operation d q e) × (t ≡ next d q e))
+    pub safety-moves : (a : Operation) (t : ℕ) → SafetyMove d (pairAt d 0 .p) q e a t ↔ ((a ≡ operationPairs d (next d q e)) × (t ≡ next d q e))
     safety-moves a t = (
       λ m. let g = safety-as-beta d (pairAt d 0 .p) q e .0 m in (beta-iff (pairAt d 0 .p) (next d q e) a .0 (g .0) ∙ sym safety-operation, g .1),
       λ p. safety-as-beta d (pairAt d 0 .p) q e .1 (beta-iff (pairAt d 0 .p) (next d q e) a .1 (p .0 ∙ safety-operation), p .1),
     )
 
-  pub safety-stops : Safety d → (q : ℕ) → q < states d → SafetyStop d (pairAt d 0 .p) q ↔ (stopping d q ≡ true)
+  pub safety-stops : Safety d → (q : ℕ) → q < states d → SafetyStop d (pairAt d 0 .p) q ↔ (stoppingPairs d q ≡ true)
   safety-stops s q h = (
     λ o. stop-says d well q h .1 (record {
       pair = 0;
@@ -134,37 +134,37 @@ module _ (d : Drawing) (well : WellDrawn d) where
   -- classes 2 and 4
 
   module _ (one : count d ≡ 1) (no-P : pairAt d 0 .p ≡ 0) where
-    gamma-operation : (t : ℕ) → operationAt d t ≡ sideR (pairAt d 0) (reachOf d t) t
+    gamma-operation : (t : ℕ) → operationPairs d t ≡ sideR (pairAt d 0) (reachOf d t) t
     gamma-operation t = one-operation one t ∙ rw (no-P, has-none t)
 
     guarantee-move : (q e : ℕ) → q < states d → e < events d → (a : Operation) (t : ℕ)
-        → GuaranteeMove d (pairAt d 0 .r) q e a t ↔ ((a ≡ operation d q e) × (t ≡ next d q e))
+        → GuaranteeMove d (pairAt d 0 .r) q e a t ↔ ((a ≡ operationPairs d (next d q e)) × (t ≡ next d q e))
     guarantee-move q e h k a t =
         let γ = gamma-iff (pairAt d 0 .r) (next d q e) (well .closed q e h k) a in (
           λ m. let g = guarantee-as-gamma d (pairAt d 0 .r) q e .0 m in (γ .0 (g .0) ∙ sym (gamma-operation (next d q e)), g .1),
           λ p. guarantee-as-gamma d (pairAt d 0 .r) q e .1 (γ .1 (p .0 ∙ gamma-operation (next d q e)), p .1),
         )
 
-    none-stops : (q : ℕ) → q < states d → ReachesNone d (pairAt d 0 .r) q ↔ (stopping d q ≡ true)
+    none-stops : (q : ℕ) → q < states d → ReachesNone d (pairAt d 0 .r) q ↔ (stoppingPairs d q ≡ true)
     none-stops q h = (
       λ n. stop-says d well q h .1 (record { pair = 0; used = omega arith; outside = rw no-P (has-none q); reaches-none = n }),
       λ p. let g = stop-says d well q h .0 p in let z : g .pair ≡ 0 = omega (arith, g .used) in rw z at (g .reaches-none),
     )
 
   pub guarantee-moves : Guarantee d → (q e : ℕ) → q < states d → e < events d → (a : Operation) (t : ℕ)
-      → GuaranteeMove d (pairAt d 0 .r) q e a t ↔ ((a ≡ operation d q e) × (t ≡ next d q e))
+      → GuaranteeMove d (pairAt d 0 .r) q e a t ↔ ((a ≡ operationPairs d (next d q e)) × (t ≡ next d q e))
   guarantee-moves g = guarantee-move (g .one) (g .no-P)
 
-  pub guarantee-stops : Guarantee d → (q : ℕ) → q < states d → GuaranteeStop d (pairAt d 0 .r) q ↔ (stopping d q ≡ true)
+  pub guarantee-stops : Guarantee d → (q : ℕ) → q < states d → GuaranteeStop d (pairAt d 0 .r) q ↔ (stoppingPairs d q ≡ true)
   guarantee-stops g = none-stops (g .one) (g .no-P)
 
   pub response-moves : Response d → (q e : ℕ) → q < states d → e < events d → (a : Operation) (t : ℕ)
-      → ResponseMove d (pairAt d 0 .r) q e a t ↔ ((a ≡ operation d q e) × (t ≡ next d q e))
+      → ResponseMove d (pairAt d 0 .r) q e a t ↔ ((a ≡ operationPairs d (next d q e)) × (t ≡ next d q e))
   response-moves r q e h k a t =
       let g = guarantee-move (r .one) (r .no-P) q e h k a t in
       (λ m. g .0 (response-as-guarantee d (pairAt d 0 .r) q e m), λ p. as-guarantee (g .1 p))
 
-  pub response-stops : Response d → (q : ℕ) → q < states d → ResponseStop d (pairAt d 0 .r) q ↔ (stopping d q ≡ true)
+  pub response-stops : Response d → (q : ℕ) → q < states d → ResponseStop d (pairAt d 0 .r) q ↔ (stoppingPairs d q ≡ true)
   response-stops r = none-stops (r .one) (r .no-P)
 
   -- class 3
@@ -202,16 +202,16 @@ module _ (d : Drawing) (well : WellDrawn d) where
       λ b i k v p. rw (pair-value i t h v .0 p) (b i (omega (arith, well .whole))),
     )
 
-    lower : BelowAll d t (operationAt d t)
-    unfolding operationAt
-    lower = all-below (operationAt d t) .1 (smallest-lower (reachOf d t) t (d .pairs))
+    lower : BelowAll d t (operationPairs d t)
+    unfolding operationPairs
+    lower = all-below (operationPairs d t) .1 (smallest-lower (reachOf d t) t (d .pairs))
 
-    greatest : (b : Operation) → BelowAll d t b → b ⊑ operationAt d t
-    unfolding operationAt
+    greatest : (b : Operation) → BelowAll d t b → b ⊑ operationPairs d t
+    unfolding operationPairs
     greatest b p = smallest-greatest (reachOf d t) t (d .pairs) b (all-below b .0 p)
 
   pub obligation-moves : (q e : ℕ) → q < states d → e < events d → (a : Operation) (t : ℕ)
-      → ObligationMove d q e a t ↔ ((a ≡ operation d q e) × (t ≡ next d q e))
+      → ObligationMove d q e a t ↔ ((a ≡ operationPairs d (next d q e)) × (t ≡ next d q e))
   obligation-moves q e h k a t = (to, λ p. rw (p .0, p .1) (infimum (lower n k′) (greatest n k′)))
     where
       n : ℕ
@@ -220,8 +220,8 @@ module _ (d : Drawing) (well : WellDrawn d) where
       k′ : n < states d
       k′ = well .closed q e h k
 
-      to : {a : Operation} {t : ℕ} → ObligationMove d q e a t → (a ≡ operation d q e) × (t ≡ next d q e)
-      to (infimum {a = a} below least) = (same a (operationAt d n) (greatest n k′ a below) (least (operationAt d n) (lower n k′)), refl)
+      to : {a : Operation} {t : ℕ} → ObligationMove d q e a t → (a ≡ operationPairs d (next d q e)) × (t ≡ next d q e)
+      to (infimum {a = a} below least) = (same a (operationPairs d n) (greatest n k′ a below) (least (operationPairs d n) (lower n k′)), refl)
 
-  pub obligation-stops : (q : ℕ) → q < states d → ObligationStop d q ↔ (stopping d q ≡ true)
+  pub obligation-stops : (q : ℕ) → q < states d → ObligationStop d q ↔ (stoppingPairs d q ≡ true)
   obligation-stops q h = let s = stop-says d well q h in (s .1, s .0)

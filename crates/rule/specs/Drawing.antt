@@ -2,7 +2,9 @@
 -- Assumes nothing.
 use Prim.Native.Nat.{ℕ, _-_, _*_}
 use mathlib.Core.Path.{_≡_}
+use mathlib.Core.Bool.{Bool}
 use mathlib.Core.List.{List, [], _++_}
+use lib.Dec.{eqb}
 use lib.ListN.{length, getD, take, replicate}
 use Rattle.rule.specs.Reach.{target}
 use Rattle.rule.specs.declared.StateNo.{StateNo}
@@ -37,6 +39,28 @@ count d = d .shape .pairs
 
 abbrev pub initial : Drawing → ℕ
 initial d = d .shape .initial .0
+
+-- the mode is joint: 1; any other is as document 01 has it, and only 0 passes check 3
+abbrev pub joint : Drawing → Bool
+joint d = eqb (d .shape .mode) 1
+
+-- the drawing in another mode
+abbrev pub inMode : ℕ → Drawing → Drawing
+inMode mode d =
+    record {
+      shape =
+          record {
+            class = d .shape .class;
+            states = states d;
+            events = events d;
+            pairs = count d;
+            initial = d .shape .initial;
+            mode = mode;
+          };
+      note = d .note;
+      table = d .table;
+      pairs = d .pairs;
+    }
 
 -- the next state of every state for every event
 abbrev pub next : Drawing → ℕ → ℕ → ℕ

@@ -4,8 +4,9 @@ use Prim.Native.Nat.{ℕ, _≤_, _<_}
 use mathlib.Core.Path.{_≡_}
 use mathlib.Core.Logic.{_⊎_}
 use mathlib.Core.List.{List, _∷_}
-use Rattle.rule.specs.Drawing.{Drawing, states, events, count, next, pairAt}
+use Rattle.rule.specs.Drawing.{Drawing, states, events, count, initial, next, pairAt}
 use Rattle.rule.specs.Published.{In, Out, ReachesNone}
+use Rattle.rule.specs.Joint.{JointStop}
 use Rattle.rule.specs.Refusals.{tell, toldOf}
 use Rattle.rule.specs.declared.Told.{Told}
 use Rattle.rule.specs.declared.Refusal.{Refusal}
@@ -50,6 +51,11 @@ NoCell d Fault = (s e : ℕ) → s < states d → e < events d → Fault s e →
 abbrev pub NoPair : Drawing → (ℕ → Type 0) → Type 0
 NoPair d Fault = (i : ℕ) → i < count d → Fault i → ⊥
 
+-- the pair that is named: the lowest with the fault, or m where no single pair has it
+pub data Named (d : Drawing) (Fault : ℕ → Type 0) : ℕ → Type 0 where
+  lowest : {i : ℕ} → LowestPair d Fault i → Named d Fault i
+  no-single : NoPair d Fault → Named d Fault (count d)
+
 -- 5: the entry is N or more
 abbrev pub BadEntry : Drawing → ℕ → ℕ → Type 0
 BadEntry d s e = states d ≤ next d s e
@@ -88,6 +94,16 @@ pub data Forbidden (d : Drawing) (s e : ℕ) : Type 0 where
 pub record StopsBy (d : Drawing) (q i : ℕ) : Type 0 where
   pub outside : Out (pairAt d i .p) q
   pub reaches-none : ReachesNone d (pairAt d i .r) q
+
+-- q is stopping: by some pair; in joint mode, because it reaches no state that every pair accepts
+pub data Stops (d : Drawing) (q : ℕ) : Type 0 where
+  by-pair : (d .shape .mode ≡ 1 → ⊥) → (i : ℕ) → i < count d → StopsBy d q i → Stops d q
+  jointly : d .shape .mode ≡ 1 → JointStop d q → Stops d q
+
+-- the initial state is stopping, and this is the lowest pair by which it is on its own, or m where no single pair is at fault
+pub record StoppedBy (d : Drawing) (i : ℕ) : Type 0 where
+  pub stops : Stops d (initial d)
+  pub named : Named d (StopsBy d (initial d)) i
 
 -- 10: R and P are both empty
 pub record BothEmpty (d : Drawing) (i : ℕ) : Type 0 where

@@ -13,6 +13,7 @@ pub mod Refusals
 pub mod Given
 pub mod Putting
 pub mod Published
+pub mod Joint
 pub mod Constructions
 pub mod WellDrawn
 pub mod Machine

@@ -20,17 +20,20 @@ pub record Machine : Type 0 where
   pub accepting : ℕ → Bool
   pub operation : ℕ → Operation
 
--- the machine of a drawing
-abbrev pub machineOf : Drawing → Machine
-machineOf d =
+-- the machine of a drawing with a choice of the operation, and with that of its mode
+abbrev pub machineBy : Drawing → (ℕ → Operation) → Machine
+machineBy d operation =
     record {
       states = states d;
       events = events d;
       initial = initial d;
       next = next d;
       accepting = meetsAll (d .pairs);
-      operation = operationAt d;
+      operation = operation;
     }
+
+abbrev pub machineOf : Drawing → Machine
+machineOf d = machineBy d (operationAt d)
 
 -- the empty sequence is accepted, and any other when the state after it is accepting
 abbrev pub acceptsBy : Machine → List ℕ → Bool
@@ -54,6 +57,6 @@ pub record Laws (m : Machine) : Type 0 where
   -- from a halting target every move halts
   pub halt-stays : (t e : ℕ) → t < m .states → e < m .events → m .operation t ≡ Halt → m .operation (m .next t e) ≡ Halt
 
--- halt wherever no accepting state is reached: so it is with one pair
+-- halt wherever no accepting state is reached: so it is with one pair, and in joint mode
 pub record Sharp (m : Machine) : Type 0 where
   pub never-halts : (t : ℕ) → t < m .states → NeverAccepts m t → m .operation t ≡ Halt

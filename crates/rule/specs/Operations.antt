@@ -1,11 +1,12 @@
--- Operations, ordered halt < store < dump: of a pair at the target of a move, of all pairs, of a move.
+-- Operations, ordered halt < store < dump: of a pair at the target of a move, of all pairs, in joint mode, of a move.
 -- Assumes nothing.
 use Prim.Native.Nat.{ℕ, _-_}
 use mathlib.Core.Bool.{cond}
 use mathlib.Core.List.{List, [], _∷_}
 use Rattle.rule.specs.Sets.{has, meets}
 use Rattle.rule.specs.Reach.{reachedWithin}
-use Rattle.rule.specs.Drawing.{Drawing, states, events, next}
+use Rattle.rule.specs.Drawing.{Drawing, states, events, next, joint}
+use Rattle.rule.specs.Acceptance.{meetsAll, goodOf}
 use Rattle.rule.specs.declared.Pair.{Pair}
 use Rattle.rule.specs.declared.Operation.{Operation}
 use Rattle.rule.specs.declared.Operation.the-variants.{Halt, Store, Dump}
@@ -51,9 +52,17 @@ smallestOf (p ∷ ps) reached t = smaller (valueOf p reached t) (smallestOf ps r
 unfoldable pub reachOf : Drawing → ℕ → ℕ
 reachOf d q = reachedWithin (d .table) (states d) (events d) q (states d - 1)
 
--- the operation of a move into t
+-- mode 0, a move into t: the smallest value over all pairs
+unfoldable pub operationPairs : Drawing → ℕ → Operation
+operationPairs d t = smallestOf (d .pairs) (reachOf d t) t
+
+-- joint mode, a move into t: dump if every pair accepts t, halt if t reaches no state that every pair accepts, else store
+unfoldable pub operationJoint : Drawing → ℕ → Operation
+operationJoint d t = cond (meetsAll (d .pairs) t) Dump (cond (meets (reachOf d t) (goodOf d)) Store Halt)
+
+-- the operation of a move into t, by the mode
 unfoldable pub operationAt : Drawing → ℕ → Operation
-operationAt d t = smallestOf (d .pairs) (reachOf d t) t
+operationAt d t = cond (joint d) (operationJoint d t) (operationPairs d t)
 
 -- the operation of the move from s at e
 abbrev pub operation : Drawing → ℕ → ℕ → Operation

@@ -15,6 +15,10 @@ ruleLimits = record { states = 64; events = 32 }
 abbrev pub mostPairs : ℕ
 mostPairs = 8
 
+-- the modes are 0 and 1
+abbrev pub lastMode : ℕ
+lastMode = 1
+
 -- the longest note
 abbrev pub longestNote : ℕ
 longestNote = 1024
@@ -48,12 +52,12 @@ pub record Classed (s : Shape) : Type 0 where
   pub low : 1 ≤ s .class
   pub high : s .class ≤ 4
 
--- 3 does not apply: N, K, m in range, initial state < N, byte 5 is 0, m 1 in class 1, 2, 4
+-- 3 does not apply: N, K, m in range, initial state < N, byte 5 is 0 or 1, m 1 in class 1, 2, 4
 pub record Ranged (s : Shape) : Type 0 where
   pub numbers : InRange ruleLimits (s .states) (s .events) (s .initial .0)
   pub some-pairs : 1 ≤ s .pairs
   pub few-pairs : s .pairs ≤ mostPairs
-  pub no-mode : s .mode ≡ 0
+  pub mode-in : s .mode ≤ lastMode
   pub one-pair : (s .class ≡ 3) ⊎ (s .pairs ≡ 1)
 
 -- neither applies

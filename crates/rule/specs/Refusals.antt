@@ -2,13 +2,13 @@
 -- Assumes nothing.
 use Prim.Native.Nat.{ℕ, zero, suc}
 use mathlib.Core.Path.{_≡_}
-use mathlib.Core.Bool.{Bool, true, false, _&&_, _||_, not}
+use mathlib.Core.Bool.{Bool, true, false, cond, _&&_, _||_, not}
 use mathlib.Core.List.{List, [], _∷_}
 use lib.Dec.{leb, eqb}
 use Rattle.rule.specs.Sets.{isEmpty, namesPast}
-use Rattle.rule.specs.Drawing.{Drawing, states, events, count, initial, next, pairAt, stateNo, eventNo}
+use Rattle.rule.specs.Drawing.{Drawing, states, events, count, initial, next, pairAt, joint, stateNo, eventNo}
 use Rattle.rule.specs.Operations.{reachOf}
-use Rattle.rule.specs.Stopping.{stopsBy}
+use Rattle.rule.specs.Stopping.{stopsBy, stoppingJoint}
 use Rattle.rule.specs.Classes.{forbidsSome}
 use Rattle.rule.specs.declared.Told.{Told}
 use Rattle.rule.specs.declared.Refusal.{Refusal}
@@ -116,8 +116,15 @@ moves d = firstCell (moveAt d) (states d) (events d)
 abbrev pub stopAt : Drawing → ℕ → Verdict
 stopAt d i = refuseIf (stopsBy (pairAt d i) (reachOf d (initial d)) (initial d)) (Stopping i)
 
+unfoldable pub stoppedPairs : Drawing → Verdict
+stoppedPairs d = firstBelow (stopAt d) (count d)
+
+-- in joint mode the same pair, and m where no single pair is at fault
+unfoldable pub stoppedJoint : Drawing → Verdict
+stoppedJoint d = cond (stoppingJoint d (initial d)) (orElse (stoppedPairs d) (Refused (Stopping (count d)))) Sound
+
 unfoldable pub stopped : Drawing → Verdict
-stopped d = firstBelow (stopAt d) (count d)
+stopped d = cond (joint d) (stoppedJoint d) (stoppedPairs d)
 
 -- 10: a used pair has R and P both empty; the lowest such pair
 abbrev pub emptyAt : Drawing → ℕ → Verdict

@@ -24,7 +24,7 @@ pub struct Pair {
     pub p: u64,
 }
 
-// The class, N, K, m, the initial state and the mode, which is 0.
+// The class, N, K, m, the initial state and the mode: 0, or 1 for joint.
 pub struct Shape {
     pub class: u8,
     pub states: u8,
@@ -68,6 +68,9 @@ impl Rule {
     pub const EVENTS: u8 = 32;
 
     pub const PAIRS: u8 = 8;
+
+    // The mode that is joint. The other one is 0.
+    pub const JOINT: u8 = 1;
 
     // The longest note.
     pub const NOTE: usize = 1024;

@@ -1,4 +1,4 @@
--- The edges of the paper that belong to rule files: N 64 and 65, a note of 1,024 and 1,025 bytes, the shortest file.
+-- The edges of the paper that belong to rule files: N 64 and 65, a note of 1,024 and 1,025 bytes, the shortest file, modes 1 and 2.
 -- Assumes nothing.
 use Prim.Native.Nat.{ℕ, _-_, _≤_, _<_}
 use native.Mathlib.Omega.{arith}
@@ -7,13 +7,15 @@ use mathlib.Core.Path.{_≡_, refl}
 use mathlib.Core.List.{List, [], _∷_}
 use lib.ListN.{length, replicate}
 use Rattle.octets.specs.Numbers.{valueOf, digits}
-use Rattle.rule.specs.Sets.{has, isEmpty, namesPast}
-use Rattle.rule.specs.Reach.{target}
+use Rattle.rule.specs.Sets.{has, insert, including, those, meetsBelow, meets, isEmpty, namesPast}
+use Rattle.rule.specs.Reach.{target, spread, reachedWithin}
+use Rattle.rule.specs.Acceptance.{meetsPair, meetsAll, goodOf}
+use Rattle.rule.specs.Operations.{reachOf}
 use Rattle.rule.specs.Classes.{movesInto, forbids, forbidsSome}
-use Rattle.rule.specs.Stopping.{stopsBy}
+use Rattle.rule.specs.Stopping.{stopsBy, stoppingJoint}
 use Rattle.rule.specs.Drawing.{stateNo}
 use Rattle.rule.specs.Range.{inRange, under, over, bad-N, bad-K, bad-initial}
-use Rattle.rule.specs.Refusals.{firstOf, firstBelow, firstCell, entries, members, exceeds, excess, moves, stopped, empties}
+use Rattle.rule.specs.Refusals.{firstOf, firstBelow, firstCell, entries, members, exceeds, excess, moves, stoppedPairs, stoppedJoint, stopped, empties}
 use Rattle.rule.specs.Given.{here}
 use Rattle.rule.specs.declared.Shape.{Shape}
 use Rattle.rule.specs.declared.Refusal.the-variants.{Frame, Range, Distance}
@@ -29,16 +31,19 @@ use Rattle.rulefile.specs.Given.{bad-size, BadRange, bad-numbers, bad-m,
 use Rattle.rulefile.specs.Given.{note, Reading, at-1, at-3, at-4, drawing}
 use Rattle.rulefile.proofs.GivenLaws.{file-within, read-gives, read-sound}
 
--- by computation, on the file of a rule of n states that stay where they are, with a note of k bytes
+-- by computation, on the file of a rule of n states that stay where they are, with a note of k bytes and a mode
 
-unfoldable pub sample : ℕ → ℕ → List ℕ
-sample n k =
+unfoldable pub sampleIn : ℕ → ℕ → ℕ → List ℕ
+sampleIn mode n k =
     fileOf (record {
-      shape = record { class = 1; states = n; events = 1; pairs = 1; initial = stateNo 0; mode = 0 };
+      shape = record { class = 1; states = n; events = 1; pairs = 1; initial = stateNo 0; mode = mode };
       note = replicate k 0;
       table = upTo (λ s. s) n;
       pairs = record { r = 0; p = 1 } ∷ [];
     })
+
+abbrev pub sample : ℕ → ℕ → List ℕ
+sample n k = sampleIn 0 n k
 
 pub record Samples : Type 0 where
   pub states-64 : readingOf (sample 64 0) .verdict ≡ Sound
@@ -47,11 +52,14 @@ pub record Samples : Type 0 where
   pub note-1025 : readingOf (sample 1 1025) .verdict ≡ Refused Distance
   pub shortest : readingOf (sample 1 0) .verdict ≡ Sound
   pub bytes : length (sample 1 0) ≡ 29
+  pub mode-1 : readingOf (sampleIn 1 1 0) .verdict ≡ Sound
+  pub mode-2 : readingOf (sampleIn 2 1 0) .verdict ≡ Refused Range
 
 pub samples : Samples
-unfolding sample readingOf verdictOn fileOf firstOf firstBelow firstCell entries members exceeds excess moves stopped empties trailerOf drawingIn upTo
+unfolding sampleIn readingOf verdictOn fileOf firstOf firstBelow firstCell entries members exceeds excess moves stoppedPairs stoppedJoint stopped empties trailerOf drawingIn upTo
     flatUpTo framed classed ranged inRange placed trailerOut valueOf digits has isEmpty namesPast target movesInto forbids forbidsSome stopsBy
-samples = record { states-64 = refl; states-65 = refl; note-1024 = refl; note-1025 = refl; shortest = refl; bytes = refl }
+    stoppingJoint goodOf meetsAll meetsPair those insert including meetsBelow meets reachOf reachedWithin spread
+samples = record { states-64 = refl; states-65 = refl; note-1024 = refl; note-1025 = refl; shortest = refl; bytes = refl; mode-1 = refl; mode-2 = refl }
 
 -- of every file
 

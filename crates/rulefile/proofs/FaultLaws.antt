@@ -9,7 +9,7 @@ use mathlib.Core.Logic.{_⊎_, inl, inr, ⊎-elim, Iff·trans}
 use lib.ListN.{length, getD}
 use lib.Seq.{getD-drop}
 use lib.Dec.{leb}
-use Rattle.rule.specs.Range.{ruleLimits, mostPairs, Outside, under, over}
+use Rattle.rule.specs.Range.{ruleLimits, mostPairs, lastMode, Outside, under, over}
 use Rattle.rule.specs.Refusals.{refuseIf}
 use Rattle.rule.specs.declared.Shape.{Shape}
 use Rattle.rule.specs.declared.Refusal.{Refusal}
@@ -78,7 +78,7 @@ module _ (s : Shape) where
   shape-fails o =
       Iff·trans
       (and-fails (range-fails ruleLimits (s .states) (s .events) (s .initial .0)) (and-fails (outside-fails 1 mostPairs (s .pairs))
-      (and-fails (eq-fails (s .mode) 0) (or-fails (eq-fails (s .class) 3) (eq-fails (s .pairs) 1))))) (
+      (and-fails (le-fails (s .mode) lastMode) (or-fails (eq-fails (s .class) 3) (eq-fails (s .pairs) 1))))) (
         ⊎-elim bad-numbers (⊎-elim bad-m (⊎-elim byte-5 (λ p. not-one (other-class (s .class) o (p .0)) (p .1)))),
         λ b. elim b [
           | bad-numbers h ↦ inl h

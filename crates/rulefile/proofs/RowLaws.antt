@@ -10,7 +10,7 @@ use Rattle.rule.specs.Reach.{Closed}
 use Rattle.rule.specs.Drawing.{Drawing, states, events, count, initial, stateNo, eventNo}
 use Rattle.rule.specs.Range.{over, bad-N, bad-initial}
 use Rattle.rule.specs.Refusals.{refuseIf, firstOf, entries, members, excess, moves, stopped, empties, conditions, conditionsOrder}
-use Rattle.rule.specs.Given.{Table, FirstCell, LowestPair, BadEntry, BadMember, TooMuch, Forbidden, StopsBy, BothEmpty}
+use Rattle.rule.specs.Given.{Table, FirstCell, LowestPair, BadEntry, BadMember, TooMuch, Forbidden, StoppedBy, BothEmpty}
 use Rattle.rule.specs.declared.Refusal.{Refusal}
 use Rattle.rule.specs.declared.Refusal.the-variants.{Class, Range, Distance, Entry, Member, Excess, Move, Stopping, Empty}
 use Rattle.rule.proofs.SetLaws.{below-or}
@@ -83,10 +83,10 @@ module _ (d : Drawing) (far : Type 0) where
       says : {y : Refusal} → T 8 y → (s e : ℕ) × (Move (stateNo s) (eventNo e) ≡ y) × FirstCell d (Forbidden d) s e
       says (at-8 a) = (_, _, refl, a)
 
-  row-9 : Closed (d .table) (states d) (events d) → states d ≤ 64 → initial d < states d → Decides T 9 (stopped d)
-  row-9 closed few start y = Iff·trans (stopped-refused d closed few start y) (λ h. same (h .1) (at-9 (h .2)), says)
+  row-9 : Closed (d .table) (states d) (events d) → states d ≤ 64 → initial d < states d → length (d .pairs) ≡ count d → Decides T 9 (stopped d)
+  row-9 closed few start whole y = Iff·trans (stopped-refused d closed few start whole y) (λ h. same (h .1) (at-9 (h .2)), says)
     where
-      says : {y : Refusal} → T 9 y → (i : ℕ) × (Stopping i ≡ y) × LowestPair d (StopsBy d (initial d)) i
+      says : {y : Refusal} → T 9 y → (i : ℕ) × (Stopping i ≡ y) × StoppedBy d i
       says (at-9 a) = (_, refl, a)
 
   row-10 : Decides T 10 (empties d)
@@ -103,7 +103,7 @@ module _ (d : Drawing) (far : Type 0) where
       then (members d) row-6 (λ _.
       then (excess d) row-7 (λ _.
       then (moves d) (row-8 whole) (λ _.
-      then (stopped d) (row-9 (entries-sound d .0 closed) few start) (λ _.
+      then (stopped d) (row-9 (entries-sound d .0 closed) few start whole) (λ _.
       then (empties d) row-10 (λ _. end))))))
 
   -- 2 to 10

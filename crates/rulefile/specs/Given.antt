@@ -5,11 +5,11 @@ use mathlib.Core.Path.{_≡_}
 use mathlib.Core.List.{List, [], _∷_, _++_}
 use mathlib.Core.Logic.{_⊎_}
 use lib.ListN.{length, getD, drop}
-use Rattle.rule.specs.Drawing.{Drawing, initial, drawn}
-use Rattle.rule.specs.Range.{ruleLimits, mostPairs, longestNote, Outside, OutOfRange}
+use Rattle.rule.specs.Drawing.{Drawing, drawn}
+use Rattle.rule.specs.Range.{ruleLimits, mostPairs, lastMode, longestNote, Outside, OutOfRange}
 use Rattle.rule.specs.Refusals.{conditionsOrder}
 use Rattle.rule.specs.Putting.{Put, putOrder}
-use Rattle.rule.specs.Given.{Table, NoRows, FirstCell, LowestPair, BadEntry, BadMember, TooMuch, Forbidden, StopsBy, BothEmpty}
+use Rattle.rule.specs.Given.{Table, NoRows, FirstCell, LowestPair, BadEntry, BadMember, TooMuch, Forbidden, StoppedBy, BothEmpty}
 use Rattle.rule.specs.declared.Rule.{Rule}
 use Rattle.rule.specs.declared.StateNo.{StateNo}
 use Rattle.rule.specs.declared.EventNo.{EventNo}
@@ -35,11 +35,11 @@ pub data BadFrame (f : List ℕ) : Type 0 where
 abbrev pub BadClass : Shape → Type 0
 BadClass s = Outside 1 4 (s .class)
 
--- 3: N, K, m out of range, initial state >= N, byte 5 not 0, or m not 1 in class 1, 2, 4
+-- 3: N, K, m out of range, initial state >= N, byte 5 not 0 or 1, or m not 1 in class 1, 2, 4
 pub data BadRange (s : Shape) : Type 0 where
   bad-numbers : OutOfRange ruleLimits (s .states) (s .events) (s .initial .0) → BadRange s
   bad-m : Outside 1 mostPairs (s .pairs) → BadRange s
-  byte-5 : (s .mode ≡ 0 → ⊥) → BadRange s
+  byte-5 : lastMode < s .mode → BadRange s
   not-one : (s .class ≡ 1) ⊎ (s .class ≡ 2) ⊎ (s .class ≡ 4) → (s .pairs ≡ 1 → ⊥) → BadRange s
 
 -- 4: a back distance is wrong, the file is shorter than the table's distance, or the note is over 1,024
@@ -65,7 +65,7 @@ pub data DrawingRow (d : Drawing) (bad-distance : Type 0) : ℕ → Refusal → 
   at-6 : {i side : ℕ} → BadMember d i side → DrawingRow d bad-distance 6 (Member i side)
   at-7 : TooMuch d → DrawingRow d bad-distance 7 Excess
   at-8 : {s : StateNo} {e : EventNo} → FirstCell d (Forbidden d) (s .0) (e .0) → DrawingRow d bad-distance 8 (Move s e)
-  at-9 : {i : ℕ} → LowestPair d (StopsBy d (initial d)) i → DrawingRow d bad-distance 9 (Stopping i)
+  at-9 : {i : ℕ} → StoppedBy d i → DrawingRow d bad-distance 9 (Stopping i)
   at-10 : {i : ℕ} → LowestPair d (BothEmpty d) i → DrawingRow d bad-distance 10 (Empty i)
 
 -- reading gives 1 to 10

@@ -5,7 +5,7 @@ use mathlib.Core.List.{[], _∷_}
 use mathlib.Core.Bool.{Bool, true, false, not, _&&_, _||_}
 use borrow.Author.Tests.{le-leb, lt-leb, le-ltb, lt-ltb, eq-eqb, ne-eqb, not-true, not-false}
 use lib.Dec.{leb, eqb}
-use Rattle.rule.specs.Range.{ruleLimits, mostPairs, between, inRange}
+use Rattle.rule.specs.Range.{ruleLimits, mostPairs, lastMode, between, inRange}
 use Rattle.rule.specs.Refusals.{refuseIf, firstOf}
 use Rattle.rule.proofs.RefusalLaws.{append-hit, append-more, first-one}
 use Rattle.rule.specs.declared.Shape.{Shape}
@@ -20,7 +20,7 @@ pub ruleset tests = (le-leb, lt-leb, le-ltb, lt-ltb, eq-eqb, ne-eqb)
 
 -- check 3, with the numbers tested apart
 pub range-tested : (s : Shape) {ok : Bool} → ok ≡ inRange ruleLimits (s .states) (s .events) (s .initial .0)
-    → ok && (between 1 mostPairs (s .pairs) && (eqb (s .mode) 0 && (eqb (s .class) 3 || eqb (s .pairs) 1))) ≡ ranged s
+    → ok && (between 1 mostPairs (s .pairs) && (leb (s .mode) lastMode && (eqb (s .class) 3 || eqb (s .pairs) 1))) ≡ ranged s
 unfolding ranged
 range-tested s is = rw is
 

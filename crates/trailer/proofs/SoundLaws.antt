@@ -48,15 +48,15 @@ unfolding classed
 classed-says s =
     in-words (and-says (le-says _ _) (le-says _ _)) (λ p. record { low = p .0; high = p .1 }) (λ p. (p .low, p .high))
 
--- 3: N, K and m in range, the initial state below N, byte 5 zero, and m 1 but in class 3
+-- 3: N, K and m in range, the initial state below N, byte 5 zero or one, and m 1 but in class 3
 pub ranged-says : (s : Shape) → Says (ranged s) (Ranged s)
 unfolding ranged
 ranged-says s =
     in-words
     (and-says (range-says ruleLimits (s .states) (s .events) (s .initial .0))
-    (and-says (and-says (le-says _ _) (le-says _ _)) (and-says (eq-says _ _) (or-says (eq-says _ _) (eq-says _ _)))))
-    (λ p. record { numbers = p .0; some-pairs = p .1 .0 .0; few-pairs = p .1 .0 .1; no-mode = p .1 .1 .0; one-pair = p .1 .1 .1 })
-    (λ r. (r .numbers, ((r .some-pairs, r .few-pairs), (r .no-mode, r .one-pair))))
+    (and-says (and-says (le-says _ _) (le-says _ _)) (and-says (le-says _ _) (or-says (eq-says _ _) (eq-says _ _)))))
+    (λ p. record { numbers = p .0; some-pairs = p .1 .0 .0; few-pairs = p .1 .0 .1; mode-in = p .1 .1 .0; one-pair = p .1 .1 .1 })
+    (λ r. (r .numbers, ((r .some-pairs, r .few-pairs), (r .mode-in, r .one-pair))))
 
 -- 4: the distances are right, the file is as long as they say, and the note is not over 1,024
 pub record Placed (t : Trailer) (size : ℕ) : Type 0 where

@@ -5,7 +5,7 @@ use mathlib.Core.Bool.{Bool, not, _&&_, _||_}
 use mathlib.Core.List.{List, [], _∷_}
 use lib.ListN.{length, getD}
 use lib.Dec.{leb, eqb}
-use Rattle.rule.specs.Range.{ruleLimits, mostPairs, longestNote, between, inRange}
+use Rattle.rule.specs.Range.{ruleLimits, mostPairs, lastMode, longestNote, between, inRange}
 use Rattle.rule.specs.Refusals.{refuseIf}
 use Rattle.rule.specs.declared.Shape.{Shape}
 use Rattle.rule.specs.declared.Refusal.the-variants.{Frame, Class, Range, Distance}
@@ -28,11 +28,11 @@ classed s = between 1 4 (s .class)
 abbrev pub class : Shape → Verdict
 class s = refuseIf (not (classed s)) Class
 
--- 3: N, K, m out of range, initial state >= N, byte 5 not 0, or m not 1 in class 1, 2, 4
+-- 3: N, K, m out of range, initial state >= N, byte 5 not 0 or 1, or m not 1 in class 1, 2, 4
 unfoldable pub ranged : Shape → Bool
 ranged s =
     inRange ruleLimits (s .states) (s .events) (s .initial .0)
-    && (between 1 mostPairs (s .pairs) && (eqb (s .mode) 0 && (eqb (s .class) 3 || eqb (s .pairs) 1)))
+    && (between 1 mostPairs (s .pairs) && (leb (s .mode) lastMode && (eqb (s .class) 3 || eqb (s .pairs) 1)))
 
 abbrev pub range : Shape → Verdict
 range s = refuseIf (not (ranged s)) Range

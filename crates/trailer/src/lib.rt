@@ -119,7 +119,7 @@ fn ranged(shape: Shape) -> bool
     let numbers = limits.hold(shape.states, shape.events, shape.initial);
     let pairs = (1 <= shape.pairs) & (shape.pairs <= Rule::PAIRS);
     let one = (shape.class == 3) | (shape.pairs == 1);
-    numbers & (pairs & ((shape.mode == 0) & one))
+    numbers & (pairs & ((shape.mode <= Rule::JOINT) & one))
 }
 
 // The refusals 2 and 3.

@@ -40,7 +40,7 @@ pub record Accepted (f : List ℕ) (s e : ℕ) : Type 0 where
   pub state-in : s < states (drawingIn f)
   pub event-in : e < events (drawingIn f)
 
-accepted : (f : List ℕ) (s e : ℕ) → whyVerdict f s e ≡ Sound → Accepted f s e
+pub accepted : (f : List ℕ) (s e : ℕ) → whyVerdict f s e ≡ Sound → Accepted f s e
 unfolding whyVerdict
 accepted f s e q =
     let a = first-sound _ _ .0 q in

@@ -5,6 +5,7 @@ pub mod SoughtLaws
 pub mod PickLaws
 -- the grounds
 pub mod GroundLaws
+pub mod OnePairLaws
 pub mod JudgeLaws
 pub mod WhyLaws
 -- any two results that a promise allows are equal

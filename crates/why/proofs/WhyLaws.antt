@@ -6,7 +6,8 @@ use Prim.Native.Nat.{ℕ, _-_, _≤_, _<_}
 use lib.ListN.{getD, take, drop}
 use borrow.Author.Tests.{le-leb, lt-leb}
 use Rattle.rule.specs.Drawing.{Drawing, body, next}
-use Rattle.rule.specs.Operations.{reachOf, operationAt}
+use Rattle.rule.specs.Operations.{reachOf, operationPairs, operationJoint, operationAt}
+use Rattle.rule.specs.Acceptance.{goodOf}
 use Rattle.rule.specs.Reach.{target}
 use Rattle.rule.specs.Refusals.{firstOf}
 use Rattle.rule.specs.WellDrawn.{WellDrawn}
@@ -22,7 +23,7 @@ use Rattle.rulefile.specs.Reading.{verdictOn, partsOf}
 use Rattle.rulefile.specs.declared.Contents.{Contents}
 use Rattle.rulefile.proofs.PartsLaws.{SoundParts, sound-file, sound-parts, parts-verdict}
 use Rattle.rulefile.proofs.WellLaws.{file-well}
-use Rattle.why.specs.Grounds.{wayFor, wayTold}
+use Rattle.why.specs.Grounds.{wantedPair, goalSet, wayFor, wayTold}
 use Rattle.why.specs.Why.{whyVerdict, GroundPromise, WhyPromise}
 use Rattle.why.specs.declared.Ground.{Ground}
 use Rattle.why.specs.declared.Ground.the-variants.{Refused}
@@ -45,7 +46,7 @@ bare-well d w =
 
 bare-ground : {v : Verdict} (d : Drawing) {t : ℕ} {out : List ℕ} {g : Ground} {out′ : List ℕ}
     → GroundPromise v (bare d) t out g out′ → GroundPromise v d t out g out′
-unfolding operationAt reachOf wayFor wayTold
+unfolding operationAt operationPairs operationJoint goodOf reachOf wantedPair goalSet wayFor wayTold
 bare-ground d q = record { written = q .written; put = q .put; answer = q .answer }
 
 -- a refusal leaves all as it is

@@ -1,11 +1,11 @@
--- `held` meets its contract: the pair that is wanted, and what putting its way came to. Assumes nothing.
+-- `held` meets its contract: what is waited for, and what putting the way there came to. Assumes nothing.
 use borrow.Author.Needs.{needs}
-use Rattle.why.proofs.JudgeLaws.{unmet-in, put-near, held-done, held-refused}
+use Rattle.why.proofs.JudgeLaws.{wanted-used, put-near, held-done, held-refused}
 use Rattle.why.proofs.grounds.held.Statement.{statement}
 use Rattle.why.proofs.grounds.held.Tie as tie
 
-pair-read : tie.Need-array-copy-out-pair
-pair-read c = search (needs, unmet-in)
+goal-set-requires : tie.Need-goal-set-requires
+goal-set-requires c κs = (search needs, λ n. search (needs, wanted-used, n))
 
 put-requires : tie.Need-put-requires
 put-requires c κs = (search needs, search needs, search needs, search (needs, put-near))
@@ -21,9 +21,7 @@ held-spec =
     tie.close
     (tie.spec
     (λ c κs. search needs)
-    (λ c. search needs)
-    (λ c. search needs)
-    pair-read
+    goal-set-requires
     put-requires
     (λ c. search needs)
     (λ c. search needs)
