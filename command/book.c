@@ -89,7 +89,7 @@ enum status command_book_list(const struct arguments *arguments) {
 static enum status tell_not_added(const struct rulebook *book, const struct loaded *rule, const pachallu_made *made) {
     char words[REFUSAL_WORDS];
     if (made->refusal == 17) return tell_bad_book(book);
-    if (made->refusal > 10) {
+    if (made->refusal > 9) {
         tell(book->file, 0, "%s", not_added_words(made->refusal));
     } else {
         refusal_words(rule, words);

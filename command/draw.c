@@ -11,7 +11,6 @@ static size_t line_of_refusal(const struct drawing *drawing, const pachallu_made
     case 7: return drawing->pair_line[0];
     case 8: return drawing->row_line[made->a];
     case 9: return drawing->start_line;
-    case 10: return drawing->pair_line[made->a];
     default: return 0;
     }
 }

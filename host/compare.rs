@@ -31,6 +31,8 @@ pub const NULL_FOR_EMPTY: bool = true;
 
 /// The operation of an event that is ignored.
 const IGNORED: u8 = 3;
+/// The number of no refusal: it was that of a pair with R and P both empty, which is refused 9 before (M-106).
+const UNUSED: usize = 10;
 /// How often each refusal must be met at least.
 const ENOUGH: usize = 20;
 /// How many files of one kind (a class, or a refusal number) are printed by `table`: starting it takes time.
@@ -394,6 +396,9 @@ impl Comparison {
                 return self.why_refused(dice, file);
             }
         };
+        if rule.pairs.iter().any(|pair| pair.r.is_empty() && pair.p.is_empty()) {
+            return Err("a rule is accepted that has a pair with R and P both empty".to_string());
+        }
         self.counts.sound[rule.class] += 1;
         self.counts.pairs[rule.pairs.len()] += 1;
         self.counts.least += (rule.states == 1 && rule.events == 1) as usize;
@@ -992,18 +997,15 @@ fn lacking(c: &Counts, printing: bool) -> Vec<String> {
     let mut faults = Vec::new();
     for no in 1..=16 {
         let met = c.made[no] + c.event[no];
-        if no != 10 && no != 13 && met < ENOUGH {
+        if ![UNUSED, 13].contains(&no) && met < ENOUGH {
             faults.push(format!("refusal {} was met {} times; at least {} are wanted", no, met, ENOUGH));
         }
         if [5, 6, 8, 9, 14].contains(&no) && c.places[no] == 0 {
             faults.push(format!("refusal {} was never met with places other than the first", no));
         }
-        if printing && no < 10 && c.printed_refused[no] == 0 {
+        if printing && no < UNUSED && c.printed_refused[no] == 0 {
             faults.push(format!("no file with refusal {} was printed", no));
         }
-    }
-    if c.made[10] > 0 {
-        faults.push("refusal 10 was given, though 9 always comes before it".to_string());
     }
     if c.event[16] < ENOUGH || c.made[16] < ENOUGH {
         faults.push(format!(

@@ -193,7 +193,7 @@ fn forbidden(class: usize, pair: &Pair, s: usize, t: usize) -> bool {
     }
 }
 
-/// Refusals 5 to 10, in order.
+/// Refusals 5 to 9, in order.
 fn check_drawing(rule: &Rule) -> Result<(), Refusal> {
     for (s, row) in rule.rows.iter().enumerate() {
         for (e, &t) in row.iter().enumerate() {
@@ -226,13 +226,10 @@ fn check_drawing(rule: &Rule) -> Result<(), Refusal> {
     if let Some(i) = stopping_by(rule, &reach(rule)[rule.initial], rule.initial) {
         return refuse_at(9, i, 0);
     }
-    if let Some(i) = rule.pairs.iter().position(|pair| pair.r.is_empty() && pair.p.is_empty()) {
-        return refuse_at(10, i, 0);
-    }
     Ok(())
 }
 
-/// All that writing asks of a rule: 2, 3, 4 for the note, 5 to 10.
+/// All that writing asks of a rule: 2, 3, 4 for the note, 5 to 9.
 pub fn check(rule: &Rule) -> Result<(), Refusal> {
     check_shape(rule.class, rule.states, rule.events, rule.pairs.len(), rule.initial, rule.mode)?;
     if rule.note.len() > NOTE {
@@ -272,7 +269,7 @@ fn write_set(set: &[usize], out: &mut Vec<u8>) {
     }
 }
 
-/// Reads a rule file: refusals 1 to 10.
+/// Reads a rule file: refusals 1 to 9.
 pub fn read(file: &[u8]) -> Result<Rule, Refusal> {
     if file.len() < TRAILER || file.len() > FILE {
         return refuse(1);
@@ -340,7 +337,7 @@ fn put(bytes: &[u8], output: &mut [u8]) -> Result<usize, Refusal> {
     Ok(bytes.len())
 }
 
-/// Writes a rule file at the front of the output: refusals 2, 3, 4, 5 to 10, 16.
+/// Writes a rule file at the front of the output: refusals 2, 3, 4, 5 to 9, 16.
 pub fn write(rule: &Rule, output: &mut [u8]) -> Result<usize, Refusal> {
     check(rule)?;
     put(&layout(rule), output)
@@ -430,7 +427,7 @@ pub fn find(job: &[u8], office: &[u8], number: u8, age: u16) -> Result<Place, Re
     refuse(18)
 }
 
-/// Writes a book with one rule more at the front of the output: refusals 17, 1 to 10, 26, 16.
+/// Writes a book with one rule more at the front of the output: refusals 17, 1 to 9, 26, 16.
 pub fn add(bytes: &[u8], number: u8, rule: &[u8], output: &mut [u8]) -> Result<usize, Refusal> {
     let mut list = entries(bytes).map_or_else(|| refuse_at(17, 0, 0), Ok)?;
     read(rule)?;
@@ -456,7 +453,7 @@ pub fn sheet(rule: &Rule) -> Vec<u8> {
     out
 }
 
-/// Makes a sheet from a rule file at the front of the output: refusals 1 to 10, 16.
+/// Makes a sheet from a rule file at the front of the output: refusals 1 to 9, 16.
 pub fn make(file: &[u8], output: &mut [u8]) -> Result<usize, Refusal> {
     let rule = read(file)?;
     put(&sheet(&rule), output)
@@ -660,7 +657,7 @@ pub fn way(rule: &Rule, from: usize, goal: &[bool]) -> Option<Vec<u8>> {
     searched
 }
 
-/// The reason at the state after the event: refusals 1 to 10 of the rule, 12 and 13.
+/// The reason at the state after the event: refusals 1 to 9 of the rule, 12 and 13.
 pub fn reason(file: &[u8], state: u8, event: u8) -> Result<Reason, Refusal> {
     let rule = read(file)?;
     let (s, e) = (state as usize, event as usize);
@@ -692,7 +689,7 @@ pub fn reason(file: &[u8], state: u8, event: u8) -> Result<Reason, Refusal> {
     })
 }
 
-/// The reason, with its way at the front of the output: refusals 1 to 10, 12, 13, 16.
+/// The reason, with its way at the front of the output: refusals 1 to 9, 12, 13, 16.
 pub fn why(file: &[u8], state: u8, event: u8, output: &mut [u8]) -> Result<Reason, Refusal> {
     let reason = reason(file, state, event)?;
     put(&reason.way, output)?;

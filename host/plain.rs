@@ -115,7 +115,7 @@ impl<'a> Drawing<'a> {
         self.pairs().iter().fold(u64::MAX, |good, pair| good & (pair.r | pair.p))
     }
 
-    /// Refusals 9 and 10, from the states that the initial state reaches.
+    /// Refusal 9, from the states that the initial state reaches.
     fn check_start(&self, reached: u64) -> Checked<()> {
         for (i, pair) in self.pairs().iter().enumerate() {
             if !has(pair.p, self.initial) && pair.r & reached == 0 {
@@ -124,11 +124,6 @@ impl<'a> Drawing<'a> {
         }
         if self.joint && self.good() & reached == 0 {
             return refused(9, self.m, 0);
-        }
-        for (i, pair) in self.pairs().iter().enumerate() {
-            if pair.p == 0 && pair.r == 0 {
-                return refused(10, i, 0);
-            }
         }
         Ok(())
     }

@@ -97,7 +97,6 @@
  *      8   a move that the class forbids                                                     state, event: first such cell
  *      9   the initial state is stopping: nothing could ever be accepted                     lowest pair by which it is; in joint mode
  *                                                                                            m, where no single pair is at fault
- *     10   a pair with R and P both empty                                                    pair
  *     11   this is no sheet: length, mark, sizes or initial state are wrong
  *     12   this is no run state of the sheet: state too great, or more held than the memory
  *          is long; for pachallu_why: the rule has no such state
@@ -112,11 +111,11 @@
  *     19   the log is over 4,096 codes, ignored ones counted
  *     26   the book has 1,024 entries already
  *
- * pachallu_make gives 1 to 10, then 16; pachallu_fresh gives 11; pachallu_event gives 11, 12, and, of an event of the rule, 14 to 16;
+ * pachallu_make gives 1 to 9, then 16; pachallu_fresh gives 11; pachallu_event gives 11, 12, and, of an event of the rule, 14 to 16;
  * pachallu_events gives 19, then 11 and 12 (of an empty log too), then 14 to 16 of each event in turn; always the first that holds.
- * pachallu_why gives 1 to 10, 12 for the state, 13 for the event, then 16, in this order.
- * pachallu_find gives 17, then 18; pachallu_add gives 17, 1 to 10, 26, then 16, in this order.
- * pachallu_print tells 1 to 10 in its text, and gives 16. pachallu_refusal_text puts a number into words.
+ * pachallu_why gives 1 to 9, 12 for the state, 13 for the event, then 16, in this order.
+ * pachallu_find gives 17, then 18; pachallu_add gives 17, 1 to 9, 26, then 16, in this order.
+ * pachallu_print tells 1 to 9 in its text, and gives 16. pachallu_refusal_text puts a number into words.
  *
  * The library is x86-64 code for Linux. Usable from C99 and C++.
  */
@@ -250,7 +249,7 @@ static inline const char *pachallu_refusal_text(uint8_t refusal) {
         "the class wants R or P to be empty, and it is not",
         "the class forbids the move of state A by event B",
         "from the initial state nothing can ever be accepted (by pair A; by all together where A is the number of pairs)",
-        "R and P of pair A are both empty",
+        0, /* 10 stays unused: it was for a pair with R and P both empty, and such a rule is refused 9 before */
         "this is no sheet",
         "this is no run state of the sheet, or no state of the rule",
         "the event is not one of the rule's",

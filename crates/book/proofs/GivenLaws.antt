@@ -1,4 +1,4 @@
--- "Given exactly when", for looking up and for adding: 17, 18, and adding's 17, 1 to 10, 26, 16 in its own order.
+-- "Given exactly when", for looking up and for adding: 17, 18, and adding's 17, 1 to 9, 26, 16 in its own order.
 -- Assumes nothing.
 use Prim.Native.Nat.{ℕ, zero, suc, _+_, _*_, _≤_, _<_}
 use native.Mathlib.Omega.{arith}

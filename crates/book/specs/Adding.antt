@@ -24,7 +24,7 @@ use Rattle.book.specs.declared.Sought.the-variants.{At}
 abbrev pub withRule : (b : List ℕ) (number : ℕ) (rule : List ℕ) → List ℕ
 withRule b number rule = bookOf (entriesIn b ++ (filed number rule ∷ []))
 
--- what adding refuses before it looks for room: 17, 1 to 10, 26
+-- what adding refuses before it looks for room: 17, 1 to 9, 26
 unfoldable pub addVerdict : (b rule : List ℕ) → Verdict
 addVerdict b rule = firstOf (refuseIf (not (wellFormed b)) (Book 0) ∷ verdictOn rule ∷ refuseIf (leb 1024 (countIn b)) Full ∷ [])
 

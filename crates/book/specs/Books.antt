@@ -30,7 +30,7 @@ pub record Books : Type 0 where
       → Finds l m number age (lookupOf job office number age)
   pub bytes : (b : List ℕ) (l : List Filed) → IsBookOf b l → {number age start size : ℕ} (f : InForce l number age start size)
       → take size (drop start b) ≡ f .entry .rule
-  -- adding gives 17, 1 to 10, 26 and 16, in this order, exactly when their rows hold; else it is done
+  -- adding gives 17, 1 to 9, 26 and 16, in this order, exactly when their rows hold; else it is done
   pub add-refused : (b : List ℕ) (number : ℕ) (rule out : List ℕ) (w : Written) (out′ : List ℕ) → AddPromise b number rule out w out′ → (x : Refusal)
       → (w ≡ Unwritten x) ↔ Given (Adding b number rule (length out)) x (putOrder addOrder)
   pub add-done : (b : List ℕ) (number : ℕ) (rule out : List ℕ) (w : Written) (out′ : List ℕ) → AddPromise b number rule out w out′ → (n : ℕ)

@@ -41,7 +41,7 @@ pub data Finding (job office : List ℕ) (number age : ℕ) : ℕ → Refusal �
   bad-office : (BadBook job → ⊥) → BadBook office → Finding job office number age 17 (Book 1)
   at-18 : NotThere (entriesIn job) (entriesIn office) number age → Finding job office number age 18 Missing
 
--- adding gives 17 for its book, 1 to 10 for the rule file, 26 for a full directory, then 16
+-- adding gives 17 for its book, 1 to 9 for the rule file, 26 for a full directory, then 16
 abbrev pub addOrder : List ℕ
 addOrder = 17 ∷ (readingOrder ++ (26 ∷ []))
 

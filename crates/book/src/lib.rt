@@ -67,7 +67,7 @@ pub fn find<'a>(job: &'a [u8], office: &'a [u8], number: u8, age: u16) -> &'a [u
     }
 }
 
-// Writes a book with one rule more to the front of the output: 17, 1 to 10 of the rule file, 26, 16.
+// Writes a book with one rule more to the front of the output: 17, 1 to 9 of the rule file, 26, 16.
 pub fn add(book: &[u8], number: u8, rule: &[u8], out: &mut [u8]) -> Written
     ensures { λ r. ⌜ AddPromise (now (book .entry)) number (now (rule .entry)) (now (out .entry)) r (now (out .exit)) ⌝ }
 {

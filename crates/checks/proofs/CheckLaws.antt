@@ -1,4 +1,4 @@
--- Laws of the checks 5 to 10, one for each return and for each turn of a loop.
+-- Laws of the checks 5 to 9, one for each return and for each turn of a loop.
 -- Assumes nothing.
 use mathlib.Core.Path.{_≡_, refl, sym, _∙_}
 use mathlib.Core.List.{List, [], _∷_}
@@ -18,7 +18,7 @@ use Rattle.rule.specs.Acceptance.{meetsAll, goodOf}
 use Rattle.rule.specs.Operations.{reachOf}
 use Rattle.rule.specs.Reach.{target, reachedWithin}
 use Rattle.rule.specs.Refusals.{refuseIf, orElse, firstOf, firstBelow, firstCell, entries, moves, memberAt}
-use Rattle.rule.specs.Refusals.{members, exceeds, excess, stopAt, stoppedPairs, stoppedJoint, stopped, emptyAt, empties, conditions}
+use Rattle.rule.specs.Refusals.{members, exceeds, excess, stopAt, stoppedPairs, stoppedJoint, stopped, conditions}
 use Rattle.rule.specs.Sets.{has, those, isEmpty, namesPast}
 use Rattle.rule.specs.Stopping.{stopsBy, stoppingJoint}
 use Rattle.rule.proofs.RefusalLaws.{below-hit, below-more, below-end, cells-hit, cells-end, cells-sound-iff, first-hit, first-more, first-one}
@@ -28,7 +28,7 @@ use Rattle.rule.proofs.SetLaws.{below-or, has-none, and-none, and-some, names-n
 use Rattle.rule.specs.declared.Pair.{Pair}
 use Rattle.rule.specs.declared.Shape.{Shape}
 use Rattle.rule.specs.declared.Refusal.{Refusal}
-use Rattle.rule.specs.declared.Refusal.the-variants.{Entry, Member, Excess, Move, Stopping, Empty}
+use Rattle.rule.specs.declared.Refusal.the-variants.{Entry, Member, Excess, Move, Stopping}
 use Rattle.rule.specs.declared.Verdict.{Verdict}
 use Rattle.rule.specs.declared.Verdict.the-variants.{Sound, Refused}
 
@@ -277,22 +277,6 @@ module _ (d : Drawing) {b : Bool} (hope : b ≡ joint d && not (stoppingJoint d 
     pub stopped-none : v ≡ Sound → (d .shape .mode ≡ 1 → ⊥) → Sound ≡ stopped d
     stopped-none e n = without (rw (ne-eqb (d .shape .mode) 1 n) (sym e))
 
--- 10
-
-module _ (d : Drawing) (i : ℕ) (none : firstBelow (emptyAt d) i ≡ Sound) where
-  module _ {q : Pair} (at : q ≡ pairAt d i) where
-    pub empty-hit : eqb (q .r) 0 && eqb (q .p) 0 ≡ true → i < count d → Refused (Empty i) ≡ empties d
-    unfolding empties isEmpty
-    empty-hit t h = hit-at (emptyAt d) (count d) i none h (rw (← at, t))
-
-    pub empty-more : eqb (q .r) 0 && eqb (q .p) 0 ≡ false → firstBelow (emptyAt d) (i + 1) ≡ Sound
-    unfolding isEmpty
-    empty-more t = below-more (emptyAt d) i none (rw (← at, t))
-
-  pub empties-all : i ≤ count d → count d ≤ i → Sound ≡ empties d
-  unfolding empties
-  empties-all = none-below (emptyAt d) (count d) i none
-
 -- what each check does not look at
 
 module _ (h : Shape) (table : List ℕ) (ps : List Pair) {v : Verdict} where
@@ -308,14 +292,10 @@ module _ (h : Shape) (table : List ℕ) (ps : List Pair) {v : Verdict} where
   unfolding excess exceeds
   excess-body e = e
 
-  pub empties-body : v ≡ empties (body h [] ps) → v ≡ empties (body h table ps)
-  unfolding empties
-  empties-body e = e
-
--- the note plays no part in the conditions 5 to 10
+-- the note plays no part in the conditions
 pub conditions-note : (h : Shape) (note : List ℕ) (table : List ℕ) (ps : List Pair)
     → conditions (record { shape = h; note = note; table = table; pairs = ps }) ≡ conditions (record { shape = h; note = []; table = table; pairs = ps })
-unfolding entries members excess exceeds moves stopped stoppedPairs stoppedJoint stoppingJoint goodOf reachOf empties
+unfolding entries members excess exceeds moves stopped stoppedPairs stoppedJoint stoppingJoint goodOf reachOf
 conditions-note h note table ps = refl
 
 -- a chain of verdicts: the first refusal is here, or later, or the last verdict is the answer
@@ -330,4 +310,4 @@ module _ (w : Verdict) {v : Verdict} (e : v ≡ w) where
   pub told-last : v ≡ firstOf (w ∷ [])
   told-last = e ∙ sym (first-one w)
 
-pub ruleset chain = (told-later, told-here, told-last, entries-body, members-body, excess-body, empties-body)
+pub ruleset chain = (told-later, told-here, told-last, entries-body, members-body, excess-body)

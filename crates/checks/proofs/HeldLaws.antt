@@ -23,7 +23,7 @@ module _ (s : Shape) where
   not-held h = rw h
 
 module _ (s : Shape) (table : List ℕ) (ps : List Pair) where
-  -- of a shape in range: the first of the conditions 5 to 10
+  -- of a shape in range: the first of the conditions 5 to 9
   pub in-range : s .states ≤ 64 → 1 ≤ s .pairs → s .pairs ≤ 8 → checkedOf s table ps ≡ firstOf (conditions (body s table ps))
   unfolding checkedOf firstOf
   in-range few some fits = rw (le-leb (s .states) 64 few, le-leb 1 (s .pairs) some, le-leb (s .pairs) 8 fits)

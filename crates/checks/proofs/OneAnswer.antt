@@ -20,6 +20,3 @@ check-moves-one-answer κs a x y = (x .told ∙ sym (y .told), refl)
 
 pub check-stopped-one-answer : OneAnswer proofs.check_stopped.ended proofs.check_stopped.Reads.Learnt
 check-stopped-one-answer κs a x y = (x .told ∙ sym (y .told), refl)
-
-pub check-empties-one-answer : OneAnswer proofs.check_empties.ended proofs.check_empties.Reads.Learnt
-check-empties-one-answer κs a x y = (x .told ∙ sym (y .told), refl)

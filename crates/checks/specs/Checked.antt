@@ -1,4 +1,4 @@
--- What the checks 5 to 10 come to, of any shape, table and pairs.
+-- What the checks 5 to 9 come to, of any shape, table and pairs.
 -- Assumes nothing.
 use Prim.Native.Nat.{ℕ}
 use mathlib.Core.Bool.{Bool, true, not, _&&_}
@@ -21,7 +21,7 @@ unfoldable pub allBelow : ℕ → List ℕ → Bool
 allBelow n [] = true
 allBelow n (x ∷ l) = ltb x n && allBelow n l
 
--- 3 of a shape that cannot be held, and then the conditions 5 to 10 in order; their numbers
+-- 3 of a shape that cannot be held, and then the conditions 5 to 9 in order; their numbers
 unfoldable pub checkedOf : Shape → List ℕ → List Pair → Verdict
 checkedOf s table ps = firstOf (refuseIf (not (holds s)) Range ∷ conditions (body s table ps))
 

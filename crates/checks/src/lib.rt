@@ -1,4 +1,4 @@
-// The checks 5 to 10, once for reading, for writing and for making a sheet: over the shape, the lent table and the pairs.
+// The checks 5 to 9, once for reading, for writing and for making a sheet: over the shape, the lent table and the pairs.
 // Each answers the first refusal that it finds; none of them looks at the note.
 ghost use mathlib.Core.Path.{_≡_};
 ghost use mathlib.Core.Bool.{not, _&&_};
@@ -247,20 +247,7 @@ pub fn check_stopped(shape: Shape, table: &[u8], pairs: [Pair; 8]) -> Verdict
     Verdict::Sound
 }
 
-// 10: the lowest used pair with both sets empty.
-pub fn check_empties(shape: Shape, pairs: [Pair; 8]) -> Verdict
-    ensures { λ r. ⌜ r ≡ paper.empties (body shape [] pairs) ⌝ }
-{
-    for i in 0..shape.pairs {
-        let pair = pair_at(shape, pairs, i);
-        if (pair.r == 0) & (pair.p == 0) {
-            return Verdict::Refused(Refusal::Empty(i));
-        }
-    }
-    Verdict::Sound
-}
-
-// The checks 7 to 10 in order, of a table that passed check 5.
+// The checks 7 to 9 in order, of a table that passed check 5.
 fn check_from_excess(shape: Shape, table: &[u8], pairs: [Pair; 8]) -> Verdict
     requires { ⌜ (shape .states ≤ 64) × Closed (now table) (shape .states) (shape .events) ⌝ }
     ensures { λ r. ⌜ r ≡ firstOf (drop 2 (conditions (body shape (now (table .entry)) pairs))) ⌝ }
@@ -273,14 +260,10 @@ fn check_from_excess(shape: Shape, table: &[u8], pairs: [Pair; 8]) -> Verdict
     let Verdict::Sound = verdict else {
         return verdict;
     };
-    let verdict = check_stopped(shape, table, pairs);
-    let Verdict::Sound = verdict else {
-        return verdict;
-    };
-    check_empties(shape, pairs)
+    check_stopped(shape, table, pairs)
 }
 
-// 3 of a shape that cannot be held here, and then the checks 5 to 10 in order.
+// 3 of a shape that cannot be held here, and then the checks 5 to 9 in order.
 pub fn check_body(shape: Shape, table: &[u8], pairs: [Pair; 8]) -> Verdict
     ensures { λ r. ⌜ r ≡ checkedOf shape (now (table .entry)) pairs ⌝ }
 {

@@ -201,9 +201,6 @@ pub check-stopped-keeps : Keeps checks.check_stopped.ended checks.check_stopped.
     r ≡ paper.stopped (body (a .0) (now (a .1 .0)) (a .1 .1 .0))
 check-stopped-keeps κs a x = x .told
 
-pub check-empties-keeps : Keeps checks.check_empties.ended checks.check_empties.Reads.Learnt λ κs a r l. r ≡ paper.empties (body (a .0) [] (a .1 .0))
-check-empties-keeps κs a x = x .told
-
 pub banned-keeps : Keeps classes.banned.ended classes.banned.Reads.Learnt λ κs a r l.
     Members r (forbidsSome (a .0 .class) (take (a .0 .pairs) (a .1 .0)) (a .1 .1 .0 .0))
 banned-keeps κs a x = x .told

@@ -1,14 +1,19 @@
 -- Demand 1 holds (specs/Demand1). Assumes nothing.
-use Rattle.rule.specs.Drawing.{drawn}
+use Rattle.rule.specs.Drawing.{Drawing, drawn}
+use Rattle.rule.specs.Given.{NoPair, BothEmpty}
 use Rattle.rule.specs.declared.Verdict.the-variants.{Sound}
 use Rattle.checks.proofs.HeldLaws.{checked-gives}
 use Rattle.trailer.proofs.NumberLaws.{shape-gives, head-gives}
 use Rattle.rulefile.specs.Layout.{drawingIn, fileOf}
 use Rattle.rulefile.specs.Reading.{verdictOn}
 use Rattle.rulefile.specs.Writing.{verdictOf}
-use Rattle.rule.proofs.NumberLaws.{entries-give, members-give, excess-gives, moves-give, stopped-gives, empties-give}
+use Rattle.rule.proofs.NumberLaws.{entries-give, members-give, excess-gives, moves-give, stopped-gives}
+use Rattle.rule.proofs.GivenLaws.{conditions-sound}
+use Rattle.rule.proofs.NoTenLaws.{no-ten}
 use Rattle.rule.proofs.PutLaws.{put-one, only-room-ends}
 use Rattle.rulefile.proofs.GivenLaws.{look-ends, read-ends, write-ends}
+use Rattle.rulefile.proofs.PartsLaws.{sound-file}
+use Rattle.rulefile.proofs.DrawnLaws.{SoundDrawing, file-drawing, rule-drawing}
 use Rattle.book.specs.Adding.{withRule, addVerdict}
 use Rattle.book.proofs.GivenLaws.{find-ends, add-ends}
 use Rattle.sheet.specs.Layout.{sheetOf}
@@ -24,6 +29,10 @@ use Rattle.printed.specs.Printing.{textOf}
 use Rattle.printed.proofs.GivenLaws.{print-ends}
 use Rattle.pachallu.proofs.EndsLaws.{c-put-ends, c-find-ends, c-fresh-ends, c-event-ends, c-event-ignores, c-evening-ends, c-why-ends}
 use Rattle.demands.specs.Demand1.{Demand1}
+
+-- a rule that passes the checks has passed 9
+no-10 : {d : Drawing} → SoundDrawing d → NoPair d (BothEmpty d)
+no-10 {d} s = no-ten d (s .pairs-whole) .passed-nine (conditions-sound d (s .passes) .4)
 
 pub demand-1 : Demand1
 demand-1 =
@@ -69,5 +78,6 @@ demand-1 =
       check-7 = excess-gives;
       check-8 = moves-give;
       check-9 = stopped-gives;
-      check-10 = empties-give;
+      no-10 = λ f e. no-10 (file-drawing f (sound-file f e));
+      no-10-written = λ r h e. no-10 (rule-drawing r h e);
     }

@@ -14,7 +14,7 @@ use Rattle.rule.specs.Operations.{smallestOf, reachOf, operationPairs, operatio
 use Rattle.rule.specs.Stopping.{stopsBy, stoppingJoint}
 use Rattle.rule.specs.Classes.{movesInto, movesOut, forbids, forbidsSome}
 use Rattle.rule.specs.Range.{lastMode, inRange}
-use Rattle.rule.specs.Refusals.{firstOf, firstBelow, firstCell, entries, members, exceeds, excess, moves, stoppedPairs, stoppedJoint, stopped, empties}
+use Rattle.rule.specs.Refusals.{firstOf, firstBelow, firstCell, entries, members, exceeds, excess, moves, stoppedPairs, stoppedJoint, stopped}
 use Rattle.rule.specs.Refusals.{conditions}
 use Rattle.rule.specs.WellDrawn.{WellDrawn}
 use Rattle.rule.specs.Putting.{settledBy}
@@ -87,7 +87,7 @@ module _ (f : List ℕ) (sound : verdictOn f ≡ Sound) where
   drawing : SoundDrawing d
   drawing = file-drawing f (sound-file f sound)
 
-  -- in another mode, where that passes the checks 5 to 10
+  -- in another mode, where that passes the checks 5 to 9
   sound-in : (mode : ℕ) → mode ≤ lastMode → firstOf (conditions (inMode mode d)) ≡ Sound → SoundDrawing (inMode mode d)
   sound-in mode known passes =
       let r = drawing .range in
@@ -141,7 +141,7 @@ module _ (f : List ℕ) (sound : verdictOn f ≡ Sound) where
 
 pub not-back : NotBack
 unfolding fileOf flatUpTo trailerOut digits drawingIn trailerOf upTo valueOf verdictOn firstOf framed classed ranged inRange placed firstBelow
-    firstCell entries members exceeds excess moves stoppedPairs stoppedJoint stopped empties namesPast isEmpty has insert including those meetsBelow meets
+    firstCell entries members exceeds excess moves stoppedPairs stoppedJoint stopped namesPast isEmpty has insert including those meetsBelow meets
     target withMoves movedBelow movedSet spread reachedWithin reachOf stopsBy stoppingJoint goodOf meetsAll meetsPair movesInto movesOut forbids forbidsSome
     operationAt operationPairs operationJoint smallestOf paper.valueOf
 not-back = record { stored = refl; halted = refl; refused = refl }

@@ -13,7 +13,7 @@ use Rattle.rule.specs.Operations.{smallestOf, reachOf, operationPairs, operatio
 use Rattle.rule.specs.Stopping.{stopsBy, stoppingJoint}
 use Rattle.rule.specs.Classes.{movesInto, movesOut, forbids, forbidsSome}
 use Rattle.rule.specs.Range.{inRange}
-use Rattle.rule.specs.Refusals.{firstOf, firstBelow, firstCell, entries, members, exceeds, excess, moves, stoppedPairs, stoppedJoint, stopped, empties}
+use Rattle.rule.specs.Refusals.{firstOf, firstBelow, firstCell, entries, members, exceeds, excess, moves, stoppedPairs, stoppedJoint, stopped}
 use Rattle.rule.specs.declared.Verdict.the-variants.{Sound}
 use Rattle.trailer.specs.Conditions.{framed, classed, ranged, placed}
 use Rattle.trailer.specs.Layout.{trailerOf, trailerOut}
@@ -39,7 +39,7 @@ read-back = refl
 -- and none of them is refused
 pub none-refused : map (λ d. verdictOn (fileOf d)) (A ∷ S ∷ G ∷ O ∷ D ∷ []) ≡ Sound ∷ Sound ∷ Sound ∷ Sound ∷ Sound ∷ []
 unfolding fileOf flatUpTo trailerOut digits drawingIn trailerOf upTo valueOf verdictOn firstOf framed classed ranged inRange placed firstBelow
-    firstCell entries members exceeds excess moves stoppedPairs stopped empties namesPast isEmpty has insert including meetsBelow meets target withMoves movedBelow
+    firstCell entries members exceeds excess moves stoppedPairs stopped namesPast isEmpty has insert including meetsBelow meets target withMoves movedBelow
     movedSet spread reachedWithin reachOf stopsBy movesInto movesOut forbids forbidsSome
 none-refused = refl
 
@@ -58,7 +58,7 @@ sheets = refl
 -- the joint rule is not refused either
 pub joint-sound : verdictOn (fileOf J) ≡ Sound
 unfolding fileOf flatUpTo trailerOut digits drawingIn trailerOf upTo valueOf verdictOn firstOf framed classed ranged inRange placed firstBelow
-    firstCell entries members exceeds excess moves stoppedPairs stoppedJoint stopped empties namesPast isEmpty has insert including those meetsBelow meets
+    firstCell entries members exceeds excess moves stoppedPairs stoppedJoint stopped namesPast isEmpty has insert including those meetsBelow meets
     target withMoves movedBelow movedSet spread reachedWithin reachOf stopsBy stoppingJoint goodOf meetsAll meetsPair movesInto movesOut forbids forbidsSome
 joint-sound = refl
 

@@ -15,23 +15,24 @@ use mathlib.Core.Path.{_≡_}
 use mathlib.Core.List.{List, [], _∷_}
 use lib.ListN.{length}
 use denote.Ref.{RefT, now}
-use Rattle.rule.specs.Drawing.{Drawing, stateNo, eventNo, zeroRule}
-use Rattle.rule.specs.Refusals.{Numbered, firstOf, verdictTold, entries, members, excess, moves, stopped, empties}
-use Rattle.rule.specs.Given.{Ends}
+use Rattle.rule.specs.Drawing.{Drawing, stateNo, eventNo, drawn, zeroRule}
+use Rattle.rule.specs.Refusals.{Numbered, firstOf, verdictTold, entries, members, excess, moves, stopped}
+use Rattle.rule.specs.Given.{Ends, NoPair, BothEmpty}
 use Rattle.rule.specs.declared.StateNo.{StateNo}
 use Rattle.rule.specs.declared.EventNo.{EventNo}
 use Rattle.rule.specs.declared.Pair.{Pair}
 use Rattle.rule.specs.declared.Rule.{Rule}
 use Rattle.rule.specs.declared.Shape.{Shape}
 use Rattle.rule.specs.declared.Refusal.{Refusal}
-use Rattle.rule.specs.declared.Verdict.the-variants.{Refused as Unsound}
+use Rattle.rule.specs.declared.Verdict.the-variants.{Sound, Refused as Unsound}
 use Rattle.checks.specs.Checked.{checkedOf, checkedOrder}
 use Rattle.trailer.specs.Conditions.{shapeConditions, shapeOrder, headConditions, headOrder}
 use Rattle.trailer.specs.declared.Trailer.{Trailer}
 use Rattle.rulefile.specs.Given.{Reading, readingOrder, Writing, writingOrder, Filing, filingOrder}
-use Rattle.rulefile.specs.Reading.{partsBy, partsOf, readingOf}
+use Rattle.rulefile.specs.Layout.{drawingIn}
+use Rattle.rulefile.specs.Reading.{verdictOn, partsBy, partsOf, readingOf}
 use Rattle.rule.specs.Putting.{OneWritten, writtenTold, putOrder}
-use Rattle.rulefile.specs.Writing.{Held, WritePromise, FilePromise}
+use Rattle.rulefile.specs.Writing.{Held, verdictOf, WritePromise, FilePromise}
 use Rattle.rule.specs.declared.Written.{Written}
 use Rattle.book.specs.Finding.{lookupOf, verdictBy, FindPromise}
 use Rattle.book.specs.Adding.{AddPromise}
@@ -64,10 +65,10 @@ use Rattle.pachallu.specs.declared.Evening.{Evening as EveningTold}
 use Rattle.pachallu.specs.declared.Reason.{Reason}
 
 pub record Demand1 : Type 0 where
-  -- a rule file, looked at and read: 1 to 10; refused, 0 in every place
+  -- a rule file, looked at and read: 1 to 9; refused, 0 in every place
   pub look : (f : List ℕ) → Ends (Reading f) readingOrder (verdictTold (partsOf f .verdict)) (partsOf f ≡ partsBy (partsOf f .verdict) [])
   pub read : (f : List ℕ) → Ends (Reading f) readingOrder (verdictTold (readingOf f .verdict)) (readingOf f .rule ≡ zeroRule)
-  -- a rule, written: 2, 3, 4 for the note, 5 to 10, then 16; refused, the output as it was
+  -- a rule, written: 2, 3, 4 for the note, 5 to 9, then 16; refused, the output as it was
   pub one-write : (r : Rule) (out : List ℕ) → OneWritten (WritePromise r out)
   pub write : (r : Rule) → Held r → (out : List ℕ) (w : Written) (out′ : List ℕ) → WritePromise r out w out′
       → Ends (Writing r (length out)) writingOrder (writtenTold w) (out′ ≡ out)
@@ -78,14 +79,14 @@ pub record Demand1 : Type 0 where
   -- a rule, looked up in two books: 17, 18; refused, an empty part
   pub find : (job office : RefT (List ℕ)) (number age : ℕ) (part : RefT (List ℕ)) → FindPromise job office number age part
       → Ends (Finding (now job) (now office) number age) findOrder (verdictTold (verdictBy (lookupOf (now job) (now office) number age))) (now part ≡ [])
-  -- a rule, added to a book: 17, 1 to 10, 26, then 16; refused, the output as it was
+  -- a rule, added to a book: 17, 1 to 9, 26, then 16; refused, the output as it was
   pub one-add : (b : List ℕ) (number : ℕ) (rule out : List ℕ) → OneWritten (AddPromise b number rule out)
   pub add : (b : List ℕ) (number : ℕ) (rule out : List ℕ) (w : Written) (out′ : List ℕ) → AddPromise b number rule out w out′
       → Ends (Adding b number rule (length out)) (putOrder addOrder) (writtenTold w) (out′ ≡ out)
-  -- a sheet, made: 1 to 10, then 16; refused, the output as it was
+  -- a sheet, made: 1 to 9, then 16; refused, the output as it was
   pub one-make : (f out : List ℕ) → OneWritten (MakePromise f out)
   pub make : (f out : List ℕ) (w : Written) (out′ : List ℕ) → MakePromise f out w out′ → Ends (Making f (length out)) makingOrder (writtenTold w) (out′ ≡ out)
-  -- why an event is answered as it is: 1 to 10, 12, 13, then 16; refused, the output as it was
+  -- why an event is answered as it is: 1 to 9, 12, 13, then 16; refused, the output as it was
   pub one-why : (f : List ℕ) (s e : ℕ) (out : List ℕ) (g h : Ground) (out₁ out₂ : List ℕ) → WhyPromise f s e out g out₁ → WhyPromise f s e out h out₂
       → (g ≡ h) × (out₁ ≡ out₂)
   pub why : (f : List ℕ) (s e : ℕ) (out : List ℕ) (g : Ground) (out′ : List ℕ) → WhyPromise f s e out g out′
@@ -141,10 +142,12 @@ pub record Demand1 : Type 0 where
   pub shape : (s : Shape) (x : Refusal) → firstOf (shapeConditions s) ≡ Unsound x → Numbered shapeOrder x
   pub head : (t : Trailer) (size : ℕ) (x : Refusal) → firstOf (headConditions t size) ≡ Unsound x → Numbered headOrder x
   pub check : (s : Shape) (table : List ℕ) (pairs : List Pair) (x : Refusal) → checkedOf s table pairs ≡ Unsound x → Numbered checkedOrder x
-  -- and each of the checks 5 to 10 alone, of any drawing, gives its own number
+  -- and each of the checks 5 to 9 alone, of any drawing, gives its own number
   pub check-5 : (d : Drawing) (x : Refusal) → entries d ≡ Unsound x → Numbered (5 ∷ []) x
   pub check-6 : (d : Drawing) (x : Refusal) → members d ≡ Unsound x → Numbered (6 ∷ []) x
   pub check-7 : (d : Drawing) (x : Refusal) → excess d ≡ Unsound x → Numbered (7 ∷ []) x
   pub check-8 : (d : Drawing) (x : Refusal) → moves d ≡ Unsound x → Numbered (8 ∷ []) x
   pub check-9 : (d : Drawing) (x : Refusal) → stopped d ≡ Unsound x → Numbered (9 ∷ []) x
-  pub check-10 : (d : Drawing) (x : Refusal) → empties d ≡ Unsound x → Numbered (10 ∷ []) x
+  -- 10 is not looked for: a rule file and a rule that are not refused have no used pair with R and P both empty (specs/NoTen, crate rule)
+  pub no-10 : (f : List ℕ) → verdictOn f ≡ Sound → NoPair (drawingIn f) (BothEmpty (drawingIn f))
+  pub no-10-written : (r : Rule) → Held r → verdictOf r ≡ Sound → NoPair (drawn r) (BothEmpty (drawn r))

@@ -6,7 +6,7 @@ mod cells;
 use rule::Verdict;
 use rule::Written;
 
-// Makes the sheet of a rule file at the front of the output: the refusals 1 to 10, then 16.
+// Makes the sheet of a rule file at the front of the output: the refusals 1 to 9, then 16.
 pub fn make(file: &[u8], out: &mut [u8]) -> Written
     ensures { λ r. ⌜ MakePromise (now (file .entry)) (now (out .entry)) r (now (out .exit)) ⌝ }
 {

@@ -106,7 +106,7 @@ fn made_of(written: Written) -> Made
     }
 }
 
-// Makes the sheet of a rule file at the front of `sheet`: the refusals 1 to 10, then 16.
+// Makes the sheet of a rule file at the front of `sheet`: the refusals 1 to 9, then 16.
 #[no_mangle]
 pub extern "C" fn pachallu_make(rule: &[u8], sheet: &mut [u8]) -> Made
     ensures { λ r. ⌜ MakeForC (now (rule .entry)) (now (sheet .entry)) r (now (sheet .exit)) ⌝ }
@@ -246,7 +246,7 @@ pub extern "C" fn pachallu_find(job: &[u8], office: &[u8], number: u8, age: u16)
     }
 }
 
-// Writes a book with one rule more to the front of `out`: the refusals 17, 1 to 10, 26, then 16.
+// Writes a book with one rule more to the front of `out`: the refusals 17, 1 to 9, 26, then 16.
 #[no_mangle]
 pub extern "C" fn pachallu_add(book: &[u8], number: u8, rule: &[u8], out: &mut [u8]) -> Made
     ensures { λ r. ⌜ AddForC (now (book .entry)) number (now (rule .entry)) (now (out .entry)) r (now (out .exit)) ⌝ }
@@ -316,7 +316,7 @@ fn reason_of(operation: Operation, pair: u8, length: usize) -> Reason
     }
 }
 
-// Tells why an event is answered as it is in a state: the refusals 1 to 10, then 12, 13 and 16. The way stands at the front of `way`.
+// Tells why an event is answered as it is in a state: the refusals 1 to 9, then 12, 13 and 16. The way stands at the front of `way`.
 #[no_mangle]
 pub extern "C" fn pachallu_why(rule: &[u8], state: u8, event: u8, way: &mut [u8]) -> Reason
     ensures { λ r. ⌜ WhyForC (now (rule .entry)) state event (now (way .entry)) r (now (way .exit)) ⌝ }

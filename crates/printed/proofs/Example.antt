@@ -9,7 +9,7 @@ use Rattle.rule.specs.Reach.{target, withMoves, movedBelow, movedSet, spread, r
 use Rattle.rule.specs.Operations as operations
 use Rattle.rule.specs.Stopping.{stopsBy, stopsBySome, stoppingPairs, stopping}
 use Rattle.rule.specs.Classes.{movesOut, forbids, forbidsSome}
-use Rattle.rule.specs.Refusals.{firstOf, firstBelow, firstCell, entries, members, exceeds, excess, moves, stoppedPairs, stopped, empties}
+use Rattle.rule.specs.Refusals.{firstOf, firstBelow, firstCell, entries, members, exceeds, excess, moves, stoppedPairs, stopped}
 use Rattle.rule.specs.Range.{inRange}
 use Rattle.trailer.specs.Conditions.{framed, classed, ranged, placed}
 use Rattle.trailer.specs.Layout.{trailerOf}
@@ -74,7 +74,7 @@ text-B =
 
 examples : (textOf A ≡ text-A) × (textOf G ≡ text-G) × (textOf B ≡ text-B)
 unfolding textOf verdictOn monitorText refusalLine header cellLines rowLines cellOf cellLine stopLine thoseBelow line rest decimal flatUpTo drawingIn
-    trailerOf upTo framed classed ranged inRange placed firstOf firstBelow firstCell entries members exceeds excess moves stoppedPairs stopped empties movesOut forbids
+    trailerOf upTo framed classed ranged inRange placed firstOf firstBelow firstCell entries members exceeds excess moves stoppedPairs stopped movesOut forbids
     forbidsSome stopsBy stopsBySome stoppingPairs stopping operations.valueOf operations.smallestOf operations.reachOf operations.operationPairs operations.operationAt reachedWithin spread
     movedSet movedBelow withMoves target including insert has meets meetsBelow isEmpty namesPast valueOf
 examples = (refl, refl, refl)

@@ -36,7 +36,7 @@ fn unread(refusal: Refusal) -> Reading
     }
 }
 
-// Reads a rule: the refusals 1 to 10.
+// Reads a rule: the refusals 1 to 9.
 pub fn read(file: &[u8]) -> Reading
     ensures { λ r. ⌜ r ≡ readingOf (now (file .entry)) ⌝ }
 {

@@ -1,9 +1,9 @@
--- Each of the conditions 5 to 10, and what it says of the drawing: sound exactly when no cell or pair has the fault, and refused with
+-- Each of the conditions 5 to 9, and what it says of the drawing: sound exactly when no cell or pair has the fault, and refused with
 -- its places exactly when those are the first. Assumes nothing.
 use Prim.Native.Nat.{ℕ, _≤_, _<_}
 use native.Mathlib.Omega.{arith}
 use mathlib.Core.Path.{_≡_, refl, ap, _∙_}
-use mathlib.Core.Bool.{Bool, true, _&&_}
+use mathlib.Core.Bool.{Bool, true}
 use mathlib.Core.Logic.{_⊎_, inl, inr, ⊎-elim, _↔_}
 use lib.ListN.{length}
 use lib.Dec.{leb}
@@ -15,14 +15,14 @@ use Rattle.rule.specs.Operations.{reachOf}
 use Rattle.rule.specs.Stopping.{stopsBy, stoppingJoint}
 use Rattle.rule.specs.Classes.{movesInto, movesOut, forbids, forbidsSome}
 use Rattle.rule.specs.Published.{In, Out}
-use Rattle.rule.specs.Refusals.{refuseIf, orElse, firstBelow, firstCell, entries, memberAt, members, exceeds, excess, moves, stoppedPairs, stoppedJoint, stopped, empties, firstOf}
+use Rattle.rule.specs.Refusals.{refuseIf, orElse, firstBelow, firstCell, entries, memberAt, members, exceeds, excess, moves, stoppedPairs, stoppedJoint, stopped, firstOf}
 use Rattle.rule.specs.Refusals.{conditions}
 use Rattle.rule.specs.Given.{FirstCell, LowestPair, NoCell, NoPair, BadEntry, Names, BadPair, BadSide, by-R, only-P, BadMember, TooMuch, with-R}
-use Rattle.rule.specs.Given.{with-P, Forbidden, into-P, out-of-R, StopsBy, Stops, by-pair, jointly, Named, lowest, no-single, StoppedBy, BothEmpty}
+use Rattle.rule.specs.Given.{with-P, Forbidden, into-P, out-of-R, StopsBy, Stops, by-pair, jointly, Named, lowest, no-single, StoppedBy}
 use Rattle.rule.specs.Joint.{JointStop}
 use Rattle.rule.specs.declared.Pair.{Pair}
 use Rattle.rule.specs.declared.Refusal.{Refusal}
-use Rattle.rule.specs.declared.Refusal.the-variants.{Entry, Member, Excess, Move, Stopping, Empty}
+use Rattle.rule.specs.declared.Refusal.the-variants.{Entry, Member, Excess, Move, Stopping}
 use Rattle.rule.specs.declared.Verdict.{Verdict}
 use Rattle.rule.specs.declared.Verdict.the-variants.{Sound, Refused}
 use Rattle.rule.proofs.BoolLaws.{clash, not-so, chosen, Says, itself, eq-says, eq-fails, and-says, or-says, not-says, ne-says, in-words}
@@ -420,39 +420,13 @@ module _ (d : Drawing) (closed : Closed (d .table) (states d) (events d)) (small
           λ l. alone-refused x .1 (l .0, l .1, pairs-refuse n (l .0) .0 (l .2)),
         ))
 
--- 10
-
-abbrev emptyTest : Drawing → ℕ → Bool
-emptyTest d i = isEmpty (pairAt d i .r) && isEmpty (pairAt d i .p)
-
-module _ (d : Drawing) where
-  empty-says : (i : ℕ) → Says (emptyTest d i) (BothEmpty d i)
-  unfolding isEmpty
-  empty-says i =
-      in-words (and-says (eq-says (pairAt d i .r) 0) (eq-says (pairAt d i .p) 0))
-      (λ g. record { no-R = g .0; no-P = g .1 })
-      (λ g. (g .no-R, g .no-P))
-
-  pub empties-sound : (empties d ≡ Sound) ↔ NoPair d (BothEmpty d)
-  unfolding empties
-  empties-sound =
-      pair-tests-sound d (emptyTest d) Empty (BothEmpty d)
-      (λ i h. empty-says i)
-
-  pub empties-refused : (x : Refusal) → (empties d ≡ Refused x) ↔ ((i : ℕ) × (Empty i ≡ x) × LowestPair d (BothEmpty d) i)
-  unfolding empties
-  empties-refused =
-      pair-tests-refused d (emptyTest d) Empty (BothEmpty d)
-      (λ i h. empty-says i)
-
 -- each condition by itself is sound
 pub conditions-sound : (d : Drawing) → firstOf (conditions d) ≡ Sound
-    → (entries d ≡ Sound) × (members d ≡ Sound) × (excess d ≡ Sound) × (moves d ≡ Sound) × (stopped d ≡ Sound) × (empties d ≡ Sound)
+    → (entries d ≡ Sound) × (members d ≡ Sound) × (excess d ≡ Sound) × (moves d ≡ Sound) × (stopped d ≡ Sound)
 conditions-sound d p0 =
     let p1 = first-sound (entries d) _ .0 p0 in
     let p2 = first-sound (members d) _ .0 (p1 .1) in
     let p3 = first-sound (excess d) _ .0 (p2 .1) in
     let p4 = first-sound (moves d) _ .0 (p3 .1) in
     let p5 = first-sound (stopped d) _ .0 (p4 .1) in
-    let p6 = first-sound (empties d) _ .0 (p5 .1) in
-    (p1 .0, p2 .0, p3 .0, p4 .0, p5 .0, p6 .0)
+    (p1 .0, p2 .0, p3 .0, p4 .0, p5 .0)

@@ -30,6 +30,8 @@ pub mod PairwiseLaws
 pub mod JointLaws
 pub mod OperationLaws
 pub mod ModeLaws
+-- 10 is not given once 9 has been passed
+pub mod NoTenLaws
 -- the published constructions
 pub mod PublishedLaws
 pub mod ConstructionLaws

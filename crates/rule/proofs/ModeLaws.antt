@@ -10,7 +10,7 @@ use Rattle.rule.specs.Operations.{operationAt}
 use Rattle.rule.specs.Stopping.{stopping}
 use Rattle.rule.specs.Published.{ObligationStop}
 use Rattle.rule.specs.Joint.{JointStop}
-use Rattle.rule.specs.Refusals.{firstOf, entries, members, exceeds, excess, moves, stopped, empties, conditions}
+use Rattle.rule.specs.Refusals.{firstOf, entries, members, exceeds, excess, moves, stopped, conditions}
 use Rattle.rule.specs.Given.{Stops, by-pair, jointly}
 use Rattle.rule.specs.Machine.{machineBy, Laws, Sharp}
 use Rattle.rule.specs.WellDrawn.{WellDrawn}
@@ -94,17 +94,17 @@ halts-at-start d well =
     let halt = operation-halt d well (initial d) start in
     (λ p o. sound .0 p (stops .0 (halt .0 o)), λ n. sound .1 (λ s. n (halt .1 (stops .1 s))))
 
--- a rule that passes the checks 5 to 10 passes them in the other mode too where that does not halt at the start
+-- a rule that passes the checks passes them in the other mode too where that does not halt at the start
 module _ (d : Drawing) (whole : length (d .pairs) ≡ count d) (shaped : Shaped (d .shape)) (sound : firstOf (conditions d) ≡ Sound) where
   abbrev W : WellDrawn d
   W = well-drawn d whole shaped sound
 
   passes-in : (mode : ℕ) → (operationAt (inMode mode d) (initial d) ≡ Halt → operationAt d (initial d) ≡ Halt) → firstOf (conditions (inMode mode d)) ≡ Sound
-  unfolding entries members exceeds excess moves empties
+  unfolding entries members exceeds excess moves
   passes-in mode halts =
       let g = conditions-sound d sound in
       let nine = halts-at-start (inMode mode d) (well-in d W mode) .1 (λ h. halts-at-start d W .0 (g .4) (halts h)) in
-      first-sound _ _ .1 (g .0, first-sound _ _ .1 (g .1, first-sound _ _ .1 (g .2, first-sound _ _ .1 (g .3, first-sound _ _ .1 (nine, first-sound _ _ .1 (g .5, first-none))))))
+      first-sound _ _ .1 (g .0, first-sound _ _ .1 (g .1, first-sound _ _ .1 (g .2, first-sound _ _ .1 (g .3, first-sound _ _ .1 (nine, first-none)))))
 
   -- so with one pair, and with any number from joint mode to mode 0
   pub one-pair-passes : count d ≡ 1 → (mode : ℕ) → firstOf (conditions (inMode mode d)) ≡ Sound

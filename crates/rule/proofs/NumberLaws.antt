@@ -1,21 +1,21 @@
--- Which numbers a verdict gives; the conditions of a drawing give 5 to 10, each its own.
+-- Which numbers a verdict gives; the conditions of a drawing give 5 to 9, each its own.
 -- Assumes nothing.
 use Prim.Native.Nat.{ℕ, zero, suc}
 use mathlib.Core.Path.{_≡_, refl}
-use mathlib.Core.Bool.{Bool, true, _&&_}
+use mathlib.Core.Bool.{Bool, true}
 use mathlib.Core.List.{List, [], _∷_, _++_}
 use mathlib.Core.Logic.{_⊎_, inl, inr, ⊎-elim}
 use lib.Dec.{leb}
 use borrow.Author.Tests.{eq-eqb}
-use Rattle.rule.specs.Sets.{isEmpty, namesPast}
+use Rattle.rule.specs.Sets.{namesPast}
 use Rattle.rule.specs.Drawing.{Drawing, stateNo, eventNo, states, count, initial, next, pairAt, joint}
 use Rattle.rule.specs.Operations.{reachOf}
 use Rattle.rule.specs.Stopping.{stopsBy, stoppingJoint}
 use Rattle.rule.specs.Classes.{forbidsSome}
 use Rattle.rule.specs.Refusals.{toldOf, among, Numbered, refuseIf, orElse, firstOf, firstBelow, firstCell, entries, members, exceeds, excess}
-use Rattle.rule.specs.Refusals.{moves, stoppedPairs, stoppedJoint, stopped, empties, conditions, conditionsOrder}
+use Rattle.rule.specs.Refusals.{moves, stoppedPairs, stoppedJoint, stopped, conditions, conditionsOrder}
 use Rattle.rule.specs.declared.Refusal.{Refusal}
-use Rattle.rule.specs.declared.Refusal.the-variants.{Entry, Member, Excess, Move, Stopping, Empty}
+use Rattle.rule.specs.declared.Refusal.the-variants.{Entry, Member, Excess, Move, Stopping}
 use Rattle.rule.specs.declared.Verdict.{Verdict}
 use Rattle.rule.specs.declared.Verdict.the-variants.{Sound, Refused}
 use Rattle.rule.proofs.BoolLaws.{Says, clash, chosen, eq-says, or-says, itself}
@@ -116,10 +116,6 @@ module _ (d : Drawing) where
       (λ o. sound-gives))
       (λ n. pairs-give)
 
-  pub empties-give : Gives (10 ∷ []) (empties d)
-  unfolding empties
-  empties-give = below-gives _ _ (λ i. test-gives (isEmpty (pairAt d i .r) && isEmpty (pairAt d i .p)) (Empty i) refl)
-
-  -- the conditions 5 to 10 give 5 to 10
+  -- together they give 5 to 9
   pub conditions-give : Each conditionsOrder (conditions d)
-  conditions-give = and entries-give (and members-give (and excess-gives (and moves-give (and stopped-gives (and empties-give end)))))
+  conditions-give = and entries-give (and members-give (and excess-gives (and moves-give (and stopped-gives end))))

@@ -1,4 +1,4 @@
--- What each refusal from 5 to 10 says of the drawing, in plain words, with the places; and "given exactly when" of the paper's table.
+-- What each refusal from 5 to 9 says of the drawing, in plain words, with the places; and "given exactly when" of the paper's table.
 -- Assumes nothing.
 use Prim.Native.Nat.{ℕ, _≤_, _<_}
 use mathlib.Core.Path.{_≡_}
@@ -105,7 +105,7 @@ pub record StoppedBy (d : Drawing) (i : ℕ) : Type 0 where
   pub stops : Stops d (initial d)
   pub named : Named d (StopsBy d (initial d)) i
 
--- 10: R and P are both empty
+-- the paper's 10: R and P are both empty. A rule that passes 9 has no such used pair (specs/NoTen)
 pub record BothEmpty (d : Drawing) (i : ℕ) : Type 0 where
   pub no-R : pairAt d i .r ≡ 0
   pub no-P : pairAt d i .p ≡ 0

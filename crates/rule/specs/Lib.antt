@@ -11,6 +11,7 @@ pub mod Stopping
 pub mod Classes
 pub mod Refusals
 pub mod Given
+pub mod NoTen
 pub mod Putting
 pub mod Published
 pub mod Joint

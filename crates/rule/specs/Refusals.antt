@@ -1,4 +1,4 @@
--- The refusal numbers, and the conditions 5 to 10, which are said of a drawing, with their places.
+-- The refusal numbers, and the conditions 5 to 9, which are said of a drawing, with their places.
 -- Assumes nothing.
 use Prim.Native.Nat.{ℕ, zero, suc}
 use mathlib.Core.Path.{_≡_}
@@ -12,7 +12,7 @@ use Rattle.rule.specs.Stopping.{stopsBy, stoppingJoint}
 use Rattle.rule.specs.Classes.{forbidsSome}
 use Rattle.rule.specs.declared.Told.{Told}
 use Rattle.rule.specs.declared.Refusal.{Refusal}
-use Rattle.rule.specs.declared.Refusal.the-variants.{Frame, Class, Range, Distance, Entry, Member, Excess, Move, Stopping, Empty, Sheet, Run}
+use Rattle.rule.specs.declared.Refusal.the-variants.{Frame, Class, Range, Distance, Entry, Member, Excess, Move, Stopping, Sheet, Run}
 use Rattle.rule.specs.declared.Refusal.the-variants.{Code, Cell, Memory, Room, Book, Missing, Log, Full}
 use Rattle.rule.specs.declared.Verdict.{Verdict}
 use Rattle.rule.specs.declared.Verdict.the-variants.{Sound, Refused}
@@ -20,7 +20,8 @@ use Rattle.rule.specs.declared.Verdict.the-variants.{Sound, Refused}
 abbrev pub tell : ℕ → ℕ → ℕ → Told
 tell number a b = record { number = number; a = a; b = b }
 
--- the paper's number and places of each refusal; 0 where a place is not named
+-- the paper's number and places of each refusal; 0 where a place is not named. 10 is never given (specs/NoTen) and stays unused: who has the paper's list
+-- would read another refusal as that one
 abbrev pub toldOf : Refusal → Told
 toldOf Frame = tell 1 0 0
 toldOf Class = tell 2 0 0
@@ -31,7 +32,6 @@ toldOf (Member i side) = tell 6 i side
 toldOf Excess = tell 7 0 0
 toldOf (Move s e) = tell 8 (s .0) (e .0)
 toldOf (Stopping i) = tell 9 i 0
-toldOf (Empty i) = tell 10 i 0
 toldOf Sheet = tell 11 0 0
 toldOf Run = tell 12 0 0
 toldOf Code = tell 13 0 0
@@ -126,16 +126,9 @@ stoppedJoint d = cond (stoppingJoint d (initial d)) (orElse (stoppedPairs d) (Re
 unfoldable pub stopped : Drawing → Verdict
 stopped d = cond (joint d) (stoppedJoint d) (stoppedPairs d)
 
--- 10: a used pair has R and P both empty; the lowest such pair
-abbrev pub emptyAt : Drawing → ℕ → Verdict
-emptyAt d i = refuseIf (isEmpty (pairAt d i .r) && isEmpty (pairAt d i .p)) (Empty i)
-
-unfoldable pub empties : Drawing → Verdict
-empties d = firstBelow (emptyAt d) (count d)
-
--- the conditions 5 to 10 in order, and their numbers
+-- the conditions 5 to 9 in order, and their numbers
 abbrev pub conditions : Drawing → List Verdict
-conditions d = entries d ∷ members d ∷ excess d ∷ moves d ∷ stopped d ∷ empties d ∷ []
+conditions d = entries d ∷ members d ∷ excess d ∷ moves d ∷ stopped d ∷ []
 
 abbrev pub conditionsOrder : List ℕ
-conditionsOrder = 5 ∷ 6 ∷ 7 ∷ 8 ∷ 9 ∷ 10 ∷ []
+conditionsOrder = 5 ∷ 6 ∷ 7 ∷ 8 ∷ 9 ∷ []

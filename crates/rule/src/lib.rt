@@ -96,7 +96,7 @@ impl Operation {
     }
 }
 
-// The refusals by number, with their places A and B where they have any. `toldOf` of specs/ gives each its number.
+// The refusals by number, with their places A and B where they have any. `toldOf` of specs/ gives each its number; 10 is never given and stays unused.
 pub enum Refusal {
     Frame,
     Class,
@@ -107,7 +107,6 @@ pub enum Refusal {
     Excess,
     Move(StateNo, EventNo),
     Stopping(u8),
-    Empty(u8),
     Sheet,
     Run,
     Code,
@@ -162,7 +161,6 @@ impl Refusal {
             Refusal::Excess => Told::new(7, 0, 0),
             Refusal::Move(s, e) => Told::new(8, s.0, e.0),
             Refusal::Stopping(i) => Told::new(9, i, 0),
-            Refusal::Empty(i) => Told::new(10, i, 0),
             Refusal::Sheet => Told::new(11, 0, 0),
             Refusal::Run => Told::new(12, 0, 0),
             Refusal::Code => Told::new(13, 0, 0),

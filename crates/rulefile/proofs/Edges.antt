@@ -15,7 +15,7 @@ use Rattle.rule.specs.Classes.{movesInto, forbids, forbidsSome}
 use Rattle.rule.specs.Stopping.{stopsBy, stoppingJoint}
 use Rattle.rule.specs.Drawing.{stateNo}
 use Rattle.rule.specs.Range.{inRange, under, over, bad-N, bad-K, bad-initial}
-use Rattle.rule.specs.Refusals.{firstOf, firstBelow, firstCell, entries, members, exceeds, excess, moves, stoppedPairs, stoppedJoint, stopped, empties}
+use Rattle.rule.specs.Refusals.{firstOf, firstBelow, firstCell, entries, members, exceeds, excess, moves, stoppedPairs, stoppedJoint, stopped}
 use Rattle.rule.specs.Given.{here}
 use Rattle.rule.specs.declared.Shape.{Shape}
 use Rattle.rule.specs.declared.Refusal.the-variants.{Frame, Range, Distance}
@@ -56,7 +56,7 @@ pub record Samples : Type 0 where
   pub mode-2 : readingOf (sampleIn 2 1 0) .verdict ≡ Refused Range
 
 pub samples : Samples
-unfolding sampleIn readingOf verdictOn fileOf firstOf firstBelow firstCell entries members exceeds excess moves stoppedPairs stoppedJoint stopped empties trailerOf drawingIn upTo
+unfolding sampleIn readingOf verdictOn fileOf firstOf firstBelow firstCell entries members exceeds excess moves stoppedPairs stoppedJoint stopped trailerOf drawingIn upTo
     flatUpTo framed classed ranged inRange placed trailerOut valueOf digits has isEmpty namesPast target movesInto forbids forbidsSome stopsBy
     stoppingJoint goodOf meetsAll meetsPair those insert including meetsBelow meets reachOf reachedWithin spread
 samples = record { states-64 = refl; states-65 = refl; note-1024 = refl; note-1025 = refl; shortest = refl; bytes = refl; mode-1 = refl; mode-2 = refl }

@@ -83,7 +83,7 @@ pub record SoundParts (f : List ℕ) (p : Contents) : Type 0 where
   pub note-long : length (drawingIn f .note) ≡ p .start
   pub table-long : length (drawingIn f .table) ≡ p .shape .states * p .shape .events
   pub pairs-long : length (drawingIn f .pairs) ≡ p .shape .pairs
-  -- which has none of the faults 5 to 10
+  -- which has none of the faults 5 to 9
   pub sound : firstOf (conditions (drawingIn f)) ≡ Sound
 
 -- the verdict that was found

@@ -112,7 +112,7 @@ module _ (f : List ℕ) {ok : Bool} (is : ok ≡ framed f) (right : not ok ≡ f
   pub head-wrong : {r : Refusal} {p : Contents} → v ≡ Refused r → p ≡ partsBy (Refused r) [] → p ≡ partsOf f
   head-wrong {r} e = parts-refused f (past-frame ∙ append-hit (headConditions t (length f)) (conditions (drawingIn f)) r (sym head ∙ e))
 
-  -- 5 to 10
+  -- 5 to 9
   module _ (sound : v ≡ Sound) where
     past-head : verdictOn f ≡ firstOf (conditions (drawingIn f))
     past-head = past-frame ∙ append-more (headConditions t (length f)) (conditions (drawingIn f)) (sym head ∙ sound)

@@ -9,17 +9,17 @@ use lib.ListN.{length}
 use Rattle.rule.specs.Reach.{Closed}
 use Rattle.rule.specs.Drawing.{Drawing, states, events, count, initial, stateNo, eventNo}
 use Rattle.rule.specs.Range.{over, bad-N, bad-initial}
-use Rattle.rule.specs.Refusals.{refuseIf, firstOf, entries, members, excess, moves, stopped, empties, conditions, conditionsOrder}
-use Rattle.rule.specs.Given.{Table, FirstCell, LowestPair, BadEntry, BadMember, TooMuch, Forbidden, StoppedBy, BothEmpty}
+use Rattle.rule.specs.Refusals.{refuseIf, firstOf, entries, members, excess, moves, stopped, conditions, conditionsOrder}
+use Rattle.rule.specs.Given.{Table, FirstCell, BadEntry, BadMember, TooMuch, Forbidden, StoppedBy}
 use Rattle.rule.specs.declared.Refusal.{Refusal}
-use Rattle.rule.specs.declared.Refusal.the-variants.{Class, Range, Distance, Entry, Member, Excess, Move, Stopping, Empty}
+use Rattle.rule.specs.declared.Refusal.the-variants.{Class, Range, Distance, Entry, Member, Excess, Move, Stopping}
 use Rattle.rule.proofs.SetLaws.{below-or}
 use Rattle.rule.proofs.BoolLaws.{Fails, fails-say}
-use Rattle.rule.proofs.GivenLaws.{entries-sound, entries-refused, members-refused, excess-refused, moves-refused, stopped-refused, empties-refused}
+use Rattle.rule.proofs.GivenLaws.{entries-sound, entries-refused, members-refused, excess-refused, moves-refused, stopped-refused}
 use Rattle.rule.proofs.TableLaws.{Within, Decides, Answers, decided, end, then}
 use Rattle.trailer.specs.Conditions.{class, range}
 use Rattle.rulefile.specs.Given.{BadClass, BadRange, bad-numbers, bad-m, drawingOrder, DrawingRow, at-2, at-3, at-4, at-5, at-6}
-use Rattle.rulefile.specs.Given.{at-7, at-8, at-9, at-10}
+use Rattle.rulefile.specs.Given.{at-7, at-8, at-9}
 use Rattle.rulefile.proofs.FaultLaws.{passed, class-fails, shape-fails}
 
 module _ (d : Drawing) (far : Type 0) where
@@ -35,7 +35,6 @@ module _ (d : Drawing) (far : Type 0) where
   drawing-within n x (at-7 a) = record { number = refl; listed = refl }
   drawing-within n x (at-8 a) = record { number = refl; listed = refl }
   drawing-within n x (at-9 a) = record { number = refl; listed = refl }
-  drawing-within n x (at-10 a) = record { number = refl; listed = refl }
 
   -- a row that gives x gives what x is
   same : {n : ℕ} {x y : Refusal} → x ≡ y → T n x → T n y
@@ -89,13 +88,7 @@ module _ (d : Drawing) (far : Type 0) where
       says : {y : Refusal} → T 9 y → (i : ℕ) × (Stopping i ≡ y) × StoppedBy d i
       says (at-9 a) = (_, refl, a)
 
-  row-10 : Decides T 10 (empties d)
-  row-10 y = Iff·trans (empties-refused d y) (λ h. same (h .1) (at-10 (h .2)), says)
-    where
-      says : {y : Refusal} → T 10 y → (i : ℕ) × (Empty i ≡ y) × LowestPair d (BothEmpty d) i
-      says (at-10 a) = (_, refl, a)
-
-  -- 5 to 10
+  -- 5 to 9
   drawing-rows : length (d .pairs) ≡ count d → states d ≤ 64 → initial d < states d → Answers T conditionsOrder (firstOf (conditions d))
   unfolding firstOf
   drawing-rows whole few start =
@@ -103,10 +96,9 @@ module _ (d : Drawing) (far : Type 0) where
       then (members d) row-6 (λ _.
       then (excess d) row-7 (λ _.
       then (moves d) (row-8 whole) (λ _.
-      then (stopped d) (row-9 (entries-sound d .0 closed) few start whole) (λ _.
-      then (empties d) row-10 (λ _. end))))))
+      then (stopped d) (row-9 (entries-sound d .0 closed) few start whole) (λ _. end)))))
 
-  -- 2 to 10
+  -- 2 to 9
   pub shape-rows : {t : Bool} → Fails t far → (count d ≤ 8 → length (d .pairs) ≡ count d)
       → Answers T drawingOrder (firstOf (class (d .shape) ∷ range (d .shape) ∷ refuseIf (not t) Distance ∷ conditions d))
   unfolding firstOf

@@ -141,7 +141,7 @@ module _ (r : Rule) {v : Verdict} (head : v ≡ firstOf (measureConditions (r .s
     pub table-taken : length (r .table) ≡ 2048 → r .shape .states * r .shape .events ≡ length (take (r .shape .states * r .shape .events) (r .table))
     table-taken e = sym (length-take-le (r .shape .states * r .shape .events) (r .table) (table-in-array e))
 
-    -- 5 to 10
+    -- 5 to 9
     module _ {w : Verdict} (checked : w ≡ checkedOf (r .shape) (take (r .shape .states * r .shape .events) (r .table)) (r .pairs)) where
       told : w ≡ verdictOf r
       unfolding verdictOf drawn

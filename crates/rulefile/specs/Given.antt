@@ -9,13 +9,13 @@ use Rattle.rule.specs.Drawing.{Drawing, drawn}
 use Rattle.rule.specs.Range.{ruleLimits, mostPairs, lastMode, longestNote, Outside, OutOfRange}
 use Rattle.rule.specs.Refusals.{conditionsOrder}
 use Rattle.rule.specs.Putting.{Put, putOrder}
-use Rattle.rule.specs.Given.{Table, NoRows, FirstCell, LowestPair, BadEntry, BadMember, TooMuch, Forbidden, StoppedBy, BothEmpty}
+use Rattle.rule.specs.Given.{Table, NoRows, FirstCell, BadEntry, BadMember, TooMuch, Forbidden, StoppedBy}
 use Rattle.rule.specs.declared.Rule.{Rule}
 use Rattle.rule.specs.declared.StateNo.{StateNo}
 use Rattle.rule.specs.declared.EventNo.{EventNo}
 use Rattle.rule.specs.declared.Shape.{Shape}
 use Rattle.rule.specs.declared.Refusal.{Refusal}
-use Rattle.rule.specs.declared.Refusal.the-variants.{Frame, Class, Range, Distance, Entry, Member, Excess, Move, Stopping, Empty}
+use Rattle.rule.specs.declared.Refusal.the-variants.{Frame, Class, Range, Distance, Entry, Member, Excess, Move, Stopping}
 use Rattle.trailer.specs.Layout.{tableBack, pairsBack, trailerSize, longestFile, trailerIn}
 use Rattle.trailer.specs.Conditions.{headOrder}
 use Rattle.trailer.specs.declared.Trailer.{Trailer}
@@ -66,9 +66,8 @@ pub data DrawingRow (d : Drawing) (bad-distance : Type 0) : ℕ → Refusal → 
   at-7 : TooMuch d → DrawingRow d bad-distance 7 Excess
   at-8 : {s : StateNo} {e : EventNo} → FirstCell d (Forbidden d) (s .0) (e .0) → DrawingRow d bad-distance 8 (Move s e)
   at-9 : {i : ℕ} → StoppedBy d i → DrawingRow d bad-distance 9 (Stopping i)
-  at-10 : {i : ℕ} → LowestPair d (BothEmpty d) i → DrawingRow d bad-distance 10 (Empty i)
 
--- reading gives 1 to 10
+-- reading gives 1 to 9
 abbrev pub readingOrder : List ℕ
 readingOrder = 1 ∷ drawingOrder
 
@@ -76,7 +75,7 @@ pub data Reading (f : List ℕ) : ℕ → Refusal → Type 0 where
   at-1 : BadFrame f → Reading f 1 Frame
   drawing : {n : ℕ} {x : Refusal} → DrawingRow (drawingIn f) (BadDistance (trailerIn f) (length f)) n x → Reading f n x
 
--- writing a rule gives 2, 3, 4 for the note only, 5 to 10, then 16
+-- writing a rule gives 2, 3, 4 for the note only, 5 to 9, then 16
 abbrev pub writingOrder : List ℕ
 writingOrder = putOrder drawingOrder
 

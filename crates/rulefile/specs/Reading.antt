@@ -14,7 +14,7 @@ use Rattle.rulefile.specs.Layout.{drawingIn}
 use Rattle.rulefile.specs.declared.Contents.{Contents}
 use Rattle.rulefile.specs.declared.Reading.{Reading}
 
--- the conditions 1 to 10 in order
+-- the conditions 1 to 9 in order
 abbrev pub fileConditions : List ℕ → List Verdict
 fileConditions f =
     frame f ∷ (headConditions (trailerIn f) (length f) ++ conditions (drawingIn f))

@@ -24,7 +24,7 @@ use Rattle.rule.specs.declared.Written.{Written}
 abbrev pub noted : ℕ → Verdict
 noted length = refuseIf (not (leb length longestNote)) Distance
 
--- the conditions of a rule by value in order: 2 to 4 of a shape and a note's length, and then 5 to 10
+-- the conditions of a rule by value in order: 2 to 4 of a shape and a note's length, and then 5 to 9
 abbrev pub measureConditions : Shape → ℕ → List Verdict
 measureConditions s length = class s ∷ range s ∷ noted length ∷ []
 

@@ -26,7 +26,7 @@ pub struct Reading {
     pub rule: Rule,
 }
 
-// Looks at a file: the refusals 1 to 10, and where its parts are. Nothing of it is copied but the pairs.
+// Looks at a file: the refusals 1 to 9, and where its parts are. Nothing of it is copied but the pairs.
 pub fn parts(file: &[u8]) -> Contents
     ensures { λ r. ⌜ r ≡ partsOf (now (file .entry)) ⌝ }
 {

@@ -12,7 +12,7 @@ use Rattle.rulefile.specs.Given.{Reading, readingOrder}
 use Rattle.rulefile.specs.Layout.{drawingIn}
 use Rattle.why.specs.Grounds.{wayTold}
 
--- 1 to 10 of the rule, then 12 for a state of N or more and 13 for an event of K or more
+-- 1 to 9 of the rule, then 12 for a state of N or more and 13 for an event of K or more
 pub data WhyRow (f : List ℕ) (s e : ℕ) : ℕ → Refusal → Type 0 where
   file : {n : ℕ} {x : Refusal} → Reading f n x → WhyRow f s e n x
   at-12 : states (drawingIn f) ≤ s → WhyRow f s e 12 Run

@@ -35,7 +35,7 @@ pub data Says (d : Drawing) (t : ℕ) (out out′ : List ℕ) : Ground → Type 
   held : {i n : ℕ} (w : List ℕ) → NoPair d (Lost d t) → StoreGround d t i w → n ≡ length w → out′ ≡ w ++ drop n out → Says d t out out′ (Held i n)
   released : NoPair d (Unmet d t) → out′ ≡ out → Says d t out out′ Released
 
--- what is refused before there is a way to put: 1 to 10 of the rule, then 12 for the state and 13 for the event
+-- what is refused before there is a way to put: 1 to 9 of the rule, then 12 for the state and 13 for the event
 unfoldable pub whyVerdict : List ℕ → (s e : ℕ) → Verdict
 whyVerdict f s e =
     firstOf (verdictOn f ∷ refuseIf (leb (states (drawingIn f)) s) Run ∷ refuseIf (leb (events (drawingIn f)) e) Code ∷ [])

@@ -19,7 +19,7 @@ pub enum Ground {
     Refused(Refusal),
 }
 
-// Why the event is answered as it is in the state: the refusals 1 to 10 of the rule, then 12, 13 and 16.
+// Why the event is answered as it is in the state: the refusals 1 to 9 of the rule, then 12, 13 and 16.
 pub fn why(file: &[u8], state: StateNo, event: EventNo, out: &mut [u8]) -> Ground
     ensures { λ r. ⌜ WhyPromise (now (file .entry)) (state .0) (event .0) (now (out .entry)) r (now (out .exit)) ⌝ }
 {

@@ -127,7 +127,7 @@ pub fn put_file(
     put_parts(shape, note, table, pairs, out)
 }
 
-// Writes a rule to the front of the output: the refusals 2, 3, 4 for the note, 5 to 10, then 16.
+// Writes a rule to the front of the output: the refusals 2, 3, 4 for the note, 5 to 9, then 16.
 pub fn write(rule: Rule, out: &mut [u8]) -> Written
     ensures { λ r. ⌜ WritePromise rule (now (out .entry)) r (now (out .exit)) ⌝ }
 {
