@@ -15,4 +15,5 @@ pub mod FromCLaws
 -- the marked runs, a witness of every hypothesis, and reach at its limits
 pub mod Runs
 pub mod Witness
+pub mod Asked
 pub mod Limits
