@@ -7,7 +7,7 @@ use mathlib.Core.Path.{_≡_, refl, sym, ap, _∙_}
 use mathlib.Core.Bool.{Bool, true, false, not}
 use mathlib.Core.List.{List, [], _∷_, _++_, append-assoc, append-nil}
 use lib.Dec.{leb}
-use lib.ListN.{length, take, drop, length-append}
+use lib.ListN.{length, take, length-append}
 use lib.Seq.{take-at, drop-at}
 use Rattle.octets.specs.Numbers.{Bytes, digits}
 use Rattle.rule.specs.Refusals.{refuseIf}
@@ -27,9 +27,9 @@ use Rattle.rulefile.proofs.PartsLaws.{sound-parts, parts-verdict}
 use Rattle.rule.proofs.PutLaws.{keeps-refused}
 use Rattle.book.specs.Book.{Filed, filed, rulesOf, entryOf, directoryOf, afterRules, bookOf, Keepable, AllKeepable, IsBookOf}
 use Rattle.book.specs.Directory.{lengthAt, distanceAt, countIn, directoryIn, filled, wellFormed, entriesFrom, entriesIn}
-use Rattle.book.specs.Finding.{Entry, newestFirst, seek, soughtIn}
+use Rattle.book.specs.Finding.{newestFirst, seek, soughtIn}
 use Rattle.book.specs.Adding.{withRule, addVerdict, AddPromise, Adds, movedAt, movedOf, lastOf, grown}
-use Rattle.book.specs.declared.Sought.the-variants.{At, Older, Nowhere}
+use Rattle.book.specs.declared.Sought.the-variants.{Older, Nowhere}
 use Rattle.book.proofs.DirectoryLaws.{filled-says, formed-says, formed-long, formed-fits}
 use Rattle.book.proofs.SeekLaws.{found-alike, not-older, not-nowhere}
 use Rattle.book.proofs.EntriesLaws.{entries-count, book-whole, rules-append, rules-one}

@@ -11,7 +11,7 @@ use mathlib.Core.List.{List, [], _∷_, _++_, append-assoc}
 use mathlib.Core.Logic.{_↔_}
 use lib.Dec.{lit<}
 use lib.ListN.{length, take, drop, length-append, length-take, length-drop, take-append-drop}
-use lib.Seq.{getD-append-add, drop-append-add, drop-cons, take-at, drop-at, take-add, drop-drop, length-take-le}
+use lib.Seq.{getD-append-add, drop-append-add, drop-cons, take-at, drop-at, take-add, drop-drop}
 use Rattle.octets.specs.Numbers.{Bytes, valueOf, digits}
 use Rattle.octets.proofs.NumberLaws.{valueOf-digits, digits-valueOf, part-back, valueOf-lt, bytes-take, bytes-drop, length-digits}
 use Rattle.book.specs.Book.{Filed, rulesOf, entryOf, directoryOf, afterRules, bookOf, Keepable, AllKeepable, IsBookOf}

@@ -5,7 +5,6 @@ use mathlib.Core.Bool.{true}
 use mathlib.Core.List.{List}
 use mathlib.Core.Logic.{Iff·trans}
 use lib.ListN.{take, drop}
-use Rattle.octets.specs.Numbers.{Bytes}
 use Rattle.rule.proofs.BoolLaws.{clash, so}
 use Rattle.book.specs.Book.{Filed, IsBookOf}
 use Rattle.book.specs.Directory.{wellFormed}

@@ -1,7 +1,7 @@
 -- What the entries of a book hold, where the walk over them comes through: as many as there are, their rules one after another, and the same entries,
 -- newest first, as the search sees them.
 -- Assumes nothing.
-use Prim.Native.Nat.{ℕ, zero, suc, _+_, _-_, _*_, _≤_, _<_}
+use Prim.Native.Nat.{ℕ, zero, suc, _+_, _-_, _*_}
 use native.Mathlib.Omega.{arith}
 use borrow.Author.Tests.{eqb-true}
 use mathlib.Core.Path.{_≡_, refl, sym, ap, _∙_}
@@ -11,7 +11,7 @@ use lib.ListN.{length, take, drop, length-append, length-drop}
 use lib.Seq.{take-add, drop-drop, length-take-le}
 use Rattle.book.specs.Book.{Filed, filed, rulesOf, afterRules}
 use Rattle.book.specs.Directory.{numberAt, lengthAt, distanceAt, countIn, directoryIn, filled, wellFormed, entriesFrom, entriesIn}
-use Rattle.book.specs.Finding.{Entry, entryAt, newestOf, newestFirst}
+use Rattle.book.specs.Finding.{Entry, newestOf, newestFirst}
 use Rattle.book.proofs.DirectoryLaws.{filled-says, filled-end, formed-says}
 
 pub entries-long : (b : List ℕ) (n at start : ℕ) → length (entriesFrom b n at start) ≡ n

@@ -11,7 +11,6 @@ use Rattle.rule.proofs.NumberLaws.{Gives, test-gives, first-gives, and, conditi
 use Rattle.rule.specs.declared.Pair.{Pair}
 use Rattle.rule.specs.declared.Shape.{Shape}
 use Rattle.rule.specs.declared.Refusal.the-variants.{Range}
-use Rattle.rule.specs.declared.Verdict.{Verdict}
 use Rattle.rule.specs.declared.Verdict.the-variants.{Sound, Refused}
 use Rattle.checks.specs.Checked.{holds, checkedOf, checkedOrder}
 

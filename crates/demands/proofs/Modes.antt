@@ -7,7 +7,7 @@ use lib.ListN.{length, getD}
 use Rattle.octets.specs.Numbers.{valueOf, digits}
 use Rattle.rule.specs.Sets.{has, insert, including, those, meetsBelow, meets, isEmpty, namesPast}
 use Rattle.rule.specs.Reach.{target, withMoves, movedBelow, movedSet, spread, reachedWithin}
-use Rattle.rule.specs.Drawing.{Drawing, states, events, count, next, inMode}
+use Rattle.rule.specs.Drawing.{Drawing, states, count, next, inMode}
 use Rattle.rule.specs.Acceptance.{meetsPair, meetsAll, goodOf}
 use Rattle.rule.specs.Operations as paper
 use Rattle.rule.specs.Operations.{smallestOf, reachOf, operationPairs, operationJoint, operationAt}
@@ -42,7 +42,6 @@ use Rattle.why.specs.Why.{whyVerdict, groundBy, GroundPromise, WhyPromise}
 use Rattle.why.specs.declared.Ground.{Ground}
 use Rattle.why.proofs.OnePairLaws.{one-operation, one-lost, one-told}
 use Rattle.why.proofs.AnswerLaws.{accepted}
-use Rattle.demands.specs.Marked.{O}
 use Rattle.demands.specs.Modes.{fileIn, Alike, halted, held, released, refused, Modes, NotBack}
 
 -- lists that are mapped alike are equal

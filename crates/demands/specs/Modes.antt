@@ -5,7 +5,7 @@ use Prim.Native.Nat.{ℕ, _≤_, _<_}
 use mathlib.Core.Path.{_≡_}
 use mathlib.Core.Logic.{_↔_}
 use mathlib.Core.List.{List}
-use Rattle.rule.specs.Drawing.{Drawing, states, events, count, inMode}
+use Rattle.rule.specs.Drawing.{states, events, count, inMode}
 use Rattle.rule.specs.Operations.{operation}
 use Rattle.rule.specs.Range.{lastMode}
 use Rattle.rule.specs.Refusals.{tell, verdictTold}

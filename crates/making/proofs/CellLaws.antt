@@ -9,7 +9,7 @@ use lib.ListN.{length, getD, take, drop, set, length-append, length-map, drop-of
 use lib.Seq.{take-suc, take-all, length-take-le}
 use borrow.Rule.Slice.PartMut.{putMid}
 use mir.Val.{Fits}
-use mir.Syntax.{w8, w64}
+use mir.Syntax.{w8}
 use Rattle.octets.specs.Numbers.{digits}
 use Rattle.octets.specs.Copies.{copied}
 use Rattle.octets.proofs.CopyLaws.{copied-full}

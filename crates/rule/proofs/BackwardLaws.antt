@@ -2,7 +2,7 @@
 -- one after the other until one adds nothing, come to.
 -- Assumes nothing.
 use mathlib.Core.Path.{_≡_, refl, sym, ap, _∙_}
-use mathlib.Core.Bool.{Bool, true, false, not, _&&_, _||_}
+use mathlib.Core.Bool.{Bool, true, false}
 use mathlib.Core.Logic.{_⊎_, inl, inr, ⊎-elim}
 use mathlib.Core.List.{List, [], _∷_}
 use Prim.Native.Nat.{ℕ, zero, suc, _+_, _-_, _^_, _≤_, _<_}
@@ -10,19 +10,18 @@ use native.Mathlib.Omega.{arith}
 use native.Mathlib.Nat.{add-zero, add-suc}
 use native.Mathlib.Decide.{ℕ-discrete}
 use lib.ListN.{getD}
-use lib.Dec.{ltb}
-use borrow.Author.Tests.{lt-ltb, le-ltb, ltb-true}
+use borrow.Author.Tests.{lt-ltb, le-ltb}
 use Rattle.rule.specs.Sets.{has, including, meets}
 use Rattle.rule.specs.Reach.{target, Closed, after, Events, none, more, reachedWithin}
 use Rattle.rule.specs.Ways.{Meets, eventInto, nearerBelow, within}
 use Rattle.rule.specs.Backward.{reaching, withSource, sweptUp, sweptDown, lostBy, lostBySome}
 use Rattle.rule.specs.Drawing.{Drawing, states, events, next, noPair}
 use Rattle.rule.specs.Operations.{reachOf}
-use Rattle.rule.specs.Stopping.{stopsBy, stopsBySome, stopping}
+use Rattle.rule.specs.Stopping.{stopsBy, stopsBySome}
 use Rattle.rule.specs.declared.Pair.{Pair}
-use Rattle.rule.proofs.SetLaws.{below-or, true-or, has-past, including-past, including-keeps, including-new, including-from, including-fits, same-members, meets-iff}
-use Rattle.rule.proofs.BoolLaws.{clash, Says}
-use Rattle.rule.proofs.LeastLaws.{least-holds, least-first}
+use Rattle.rule.proofs.SetLaws.{below-or, including-past, including-keeps, including-new, including-from, including-fits, same-members, meets-iff}
+use Rattle.rule.proofs.BoolLaws.{Says}
+use Rattle.rule.proofs.LayerLaws.{event-in, in-event, nearer-or, nearer-new, layer-first, layer-again, layer-keeps, layer-later}
 use Rattle.rule.proofs.WayLaws.{after-lt}
 use Rattle.rule.proofs.ReachLaws.{reaches-iff}
 use Rattle.rule.proofs.CountLaws.{Within, count, count-le, count-mono, grows}
@@ -40,14 +39,6 @@ pub data Into (next : ℕ → ℕ → ℕ) (n k x : ℕ) : ℕ → Type 0 where
 
 -- one event
 module _ (next : ℕ → ℕ → ℕ) (k x s : ℕ) where
-  event-in : eventInto next k x s < k → has x (next s (eventInto next k x s)) ≡ true
-  unfolding eventInto
-  event-in h = least-holds (λ e. has x (next s e)) k h
-
-  in-event : (e : ℕ) → e < k → has x (next s e) ≡ true → eventInto next k x s < k
-  unfolding eventInto
-  in-event e h m = below-or (eventInto next k x s) k (λ l. l) (λ l. clash m (least-first (λ e. has x (next s e)) k e (omega arith)))
-
   -- x with s, by cases
   source-or : (P : ℕ → Type 0) → (eventInto next k x s < k → P (including x s)) → P x → P (withSource next k x s)
   unfolding withSource
@@ -61,14 +52,14 @@ module _ (next : ℕ → ℕ → ℕ) (k x s : ℕ) where
 
   source-new : (e : ℕ) → s < 64 → e < k → has x (next s e) ≡ true → has (withSource next k x s) s ≡ true
   unfolding withSource
-  source-new e l h m = rw (lt-ltb (eventInto next k x s) k (in-event e h m)) (including-new x s l)
+  source-new e l h m = rw (lt-ltb (eventInto next k x s) k (in-event next k x s e h m)) (including-new x s l)
 
   source-from : (n : ℕ) → s < n → (t : ℕ) → has (withSource next k x s) t ≡ true → Into next n k x t
   source-from n h t =
       source-or (λ z. has z t ≡ true → Into next n k x t)
       (λ l m. below-or s 64
       (λ b.
-      let w : Into next n k x s = on h b l (here (event-in l)) in
+      let w : Into next n k x s = on h b l (here (event-in next k x s l)) in
       ⊎-elim here (λ (e : s ≡ t). rw e at w) (including-from x s t m))
       (λ b. here (rw (← including-past x s b) at m)))
       here
@@ -134,39 +125,16 @@ module _ (next : ℕ → ℕ → ℕ) (n k : ℕ) where
 
 -- the layers: from which at most m events lead into x
 module _ (next : ℕ → ℕ → ℕ) (k x : ℕ) where
-  -- x with the states below i from which one event leads into it, by cases
-  nearer-or : (P : ℕ → Type 0) (i : ℕ) → (eventInto next k x i < k → P (including (nearerBelow next k x i) i)) → P (nearerBelow next k x i)
-      → P (nearerBelow next k x (suc i))
-  unfolding nearerBelow
-  nearer-or P i f g =
-      below-or (eventInto next k x i) k
-      (λ l. rw (lt-ltb (eventInto next k x i) k l) (f l))
-      (λ l. rw (le-ltb (eventInto next k x i) k l) g)
-
-  nearer-keeps : (i : ℕ) → Within x (nearerBelow next k x i)
-  unfolding nearerBelow
-  nearer-keeps zero t m = m
-  nearer-keeps (suc i) t m = nearer-or (λ z. has z t ≡ true) i (λ l. including-keeps (nearerBelow next k x i) i t (nearer-keeps i t m)) (nearer-keeps i t m)
-
   nearer-fits : x < 2 ^ 64 → (i : ℕ) → nearerBelow next k x i < 2 ^ 64
   unfolding nearerBelow
   nearer-fits h zero = h
-  nearer-fits h (suc i) = nearer-or (λ z. z < 2 ^ 64) i (λ l. including-fits (nearerBelow next k x i) i (nearer-fits h i)) (nearer-fits h i)
-
-  nearer-new : (i s e : ℕ) → s < i → s < 64 → e < k → has x (next s e) ≡ true → has (nearerBelow next k x i) s ≡ true
-  unfolding nearerBelow
-  nearer-new zero s e h b g m = absurd (omega arith)
-  nearer-new (suc i) s e h b g m =
-      below-or s i
-      (λ c. let old = nearer-new i s e c b g m in nearer-or (λ z. has z s ≡ true) i (λ l. including-keeps (nearerBelow next k x i) i s old) old)
-      (λ c. let q : s ≡ i = omega arith in
-      rw (q, lt-ltb (eventInto next k x i) k (in-event next k x i e g (rw q at m))) (including-new (nearerBelow next k x i) i (omega arith)))
+  nearer-fits h (suc i) = nearer-or next k x (λ z. z < 2 ^ 64) i (λ l. including-fits (nearerBelow next k x i) i (nearer-fits h i)) (nearer-fits h i)
 
   nearer-from : (n i : ℕ) → i ≤ n → (t : ℕ) → has (nearerBelow next k x i) t ≡ true → Into next n k x t
   unfolding nearerBelow
   nearer-from n zero h t = here
   nearer-from n (suc i) h t =
-      nearer-or (λ z. has z t ≡ true → Into next n k x t) i
+      nearer-or next k x (λ z. has z t ≡ true → Into next n k x t) i
       (λ l m. below-or i 64
       (λ b.
       let w : Into next n k x i = on (omega arith) b l (here (event-in next k x i l)) in
@@ -178,59 +146,44 @@ module _ (next : ℕ → ℕ → ℕ) (n k x : ℕ) where
   abbrev W : ℕ → ℕ
   W m = within next n k x m
 
-  first : W 0 ≡ x
-  unfolding within
-  first = refl
-
-  again : (m : ℕ) → W (suc m) ≡ nearerBelow next k (W m) n
-  unfolding within
-  again m = refl
-
-  layer-keeps : (m : ℕ) → Within (W m) (W (suc m))
-  layer-keeps m t i = rw (again m) (nearer-keeps next k (W m) n t i)
-
-  later : (m j : ℕ) → Within (W m) (W (m + j))
-  later m zero t i = rw add-zero i
-  later m (suc j) t i = rw add-suc (layer-keeps (m + j) t (later m j t i))
-
   -- each member of a layer leads into x, and what leads into x is a member of some layer
   layer-into : (m t : ℕ) → has (W m) t ≡ true → Into next n k x t
-  layer-into zero t i = here (rw first at i)
-  layer-into (suc m) t i = into-then next n k (layer-into m) (nearer-from next k (W m) n n (omega arith) t (rw (again m) at i))
+  layer-into zero t i = here (rw (layer-first next n k x) at i)
+  layer-into (suc m) t i = into-then next n k (layer-into m) (nearer-from next k (W m) n n (omega arith) t (rw (layer-again next n k x m) at i))
 
   into-layer : {s : ℕ} → Into next n k x s → (m : ℕ) × (has (W m) s ≡ true)
-  into-layer (here i) = (0, rw first i)
+  into-layer (here i) = (0, rw (layer-first next n k x) i)
   into-layer (on {s = s} {e = e} h b l w) =
       let r = into-layer w in
-      (suc (r .0), rw (again (r .0)) (nearer-new next k (W (r .0)) n s e h b l (r .1)))
+      (suc (r .0), rw (layer-again next n k x (r .0)) (nearer-new next k (W (r .0)) n s e h b l (r .1)))
 
   -- 64 events are always enough
   module _ (fits : x < 2 ^ 64) where
     layer-fits : (m : ℕ) → W m < 2 ^ 64
-    layer-fits zero = rw first fits
-    layer-fits (suc m) = rw (again m) (nearer-fits next k (W m) (layer-fits m) n)
+    layer-fits zero = rw (layer-first next n k x) fits
+    layer-fits (suc m) = rw (layer-again next n k x m) (nearer-fits next k (W m) (layer-fits m) n)
 
     step : (m : ℕ) → m ≤ count (W m) 64 → (W (suc m) ≡ W m) ⊎ (suc m ≤ count (W (suc m)) 64)
     step m g = by (ℕ-discrete (W m) (W (suc m)))
       where
         by : Dec (W m ≡ W (suc m)) → (W (suc m) ≡ W m) ⊎ (suc m ≤ count (W (suc m)) 64)
         by (yes e) = inl (sym e)
-        by (no d) = inr (omega (arith, grows (W m) (W (suc m)) (layer-keeps m) 64 (layer-fits m) (layer-fits (suc m)) d))
+        by (no d) = inr (omega (arith, grows (W m) (W (suc m)) (layer-keeps next n k x m) 64 (layer-fits m) (layer-fits (suc m)) d))
 
     grown : (m : ℕ) → (W (suc m) ≡ W m) ⊎ (suc m ≤ count (W (suc m)) 64)
     grown zero = step zero (omega arith)
-    grown (suc m) = ⊎-elim (λ e. inl (again (suc m) ∙ ap (λ z. nearerBelow next k z n) e ∙ sym (again m))) (λ g. step (suc m) g) (grown m)
+    grown (suc m) = ⊎-elim (λ e. inl (layer-again next n k x (suc m) ∙ ap (λ z. nearerBelow next k z n) e ∙ sym (layer-again next n k x m))) (λ g. step (suc m) g) (grown m)
 
     stays : (j : ℕ) → W (64 + j) ≡ W 64
     stays zero = rw add-zero
     stays (suc j) =
         let still : W (suc 64) ≡ W 64 = ⊎-elim (λ e. e) (λ g. absurd (omega (arith, count-le (W (suc 64)) 64))) (grown 64) in
-        rw add-suc (again (64 + j) ∙ ap (λ z. nearerBelow next k z n) (stays j) ∙ sym (again 64) ∙ still)
+        rw add-suc (layer-again next n k x (64 + j) ∙ ap (λ z. nearerBelow next k z n) (stays j) ∙ sym (layer-again next n k x 64) ∙ still)
 
     enough : (m t : ℕ) → has (W m) t ≡ true → has (W 64) t ≡ true
     enough m t i =
         below-or m 64
-        (λ l. let p : m + (64 - m) ≡ 64 = omega arith in rw p at (later m (64 - m) t i))
+        (λ l. let p : m + (64 - m) ≡ 64 = omega arith in rw p at (layer-later next n k x m (64 - m) t i))
         (λ l. let p : 64 + (m - 64) ≡ m = omega arith in rw (← stays (m - 64), p) i)
 
     reaching-into : (s : ℕ) → Says (has (reaching next n k x) s) (Into next n k x s)

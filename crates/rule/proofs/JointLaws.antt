@@ -2,26 +2,23 @@
 -- reached. Assumes nothing.
 use Prim.Native.Nat.{ℕ, _<_}
 use native.Mathlib.Omega.{arith}
-use mathlib.Core.Path.{_≡_, refl, sym, _∙_}
+use mathlib.Core.Path.{_≡_, refl}
 use mathlib.Core.Bool.{Bool, true, false, cond, not}
-use mathlib.Core.List.{List, [], _∷_}
-use mathlib.Core.Logic.{_⊎_, _↔_, Iff·trans}
-use Rattle.rule.specs.Sets.{has, meets}
+use mathlib.Core.List.{[], _∷_}
+use mathlib.Core.Logic.{_↔_}
+use Rattle.rule.specs.Sets.{meets}
 use Rattle.rule.specs.Reach.{after, none, more}
-use Rattle.rule.specs.Drawing.{Drawing, states, events, count, next, pairAt}
-use Rattle.rule.specs.Acceptance.{meetsPair, meetsAll, goodOf}
+use Rattle.rule.specs.Drawing.{Drawing, states, events, next}
+use Rattle.rule.specs.Acceptance.{meetsAll, goodOf}
 use Rattle.rule.specs.Operations.{reachOf, operationJoint}
 use Rattle.rule.specs.Stopping.{stoppingJoint}
-use Rattle.rule.specs.Published.{In, Reaches}
 use Rattle.rule.specs.Joint.{AllAccept, ReachesGood, JointMove, dump, halt, store, JointStop}
 use Rattle.rule.specs.Machine.{machineBy, NeverAccepts, Laws, Sharp}
 use Rattle.rule.specs.WellDrawn.{WellDrawn}
-use Rattle.rule.specs.declared.Pair.{Pair}
 use Rattle.rule.specs.declared.Operation.{Operation}
 use Rattle.rule.specs.declared.Operation.the-variants.{Halt, Store, Dump}
-use Rattle.rule.proofs.BoolLaws.{clash, not-so, Says, itself, or-says, ne-says, in-words}
-use Rattle.rule.proofs.SetLaws.{true-or, those-at}
-use Rattle.rule.proofs.PairLaws.{meets-all}
+use Rattle.rule.proofs.BoolLaws.{clash, not-so, Says}
+use Rattle.rule.proofs.SetLaws.{true-or}
 use Rattle.rule.proofs.StoppingLaws.{all-accept, good-says, joint-stops}
 use Rattle.rule.proofs.PairwiseLaws.{apart}
 

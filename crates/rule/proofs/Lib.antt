@@ -8,10 +8,10 @@ pub mod MoveLaws
 pub mod CountLaws
 pub mod WayLaws
 pub mod ReachLaws
--- the shortest way into a set
+-- the lowest number where a test holds, the layers of what leads into a set, the shortest way into it, backward reach
 pub mod LeastLaws
+pub mod LayerLaws
 pub mod ShortestLaws
--- backward reach
 pub mod BackwardLaws
 -- refusals: which is first, when each is given, and their numbers
 pub mod BoolLaws

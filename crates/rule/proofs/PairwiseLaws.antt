@@ -1,6 +1,6 @@
 -- The laws of the operation of mode 0, for any number of pairs: it dumps exactly at an accepting target and halts exactly at a stopping one.
 -- Assumes nothing.
-use Prim.Native.Nat.{ℕ, zero, suc, _<_}
+use Prim.Native.Nat.{ℕ, _<_}
 use native.Mathlib.Omega.{arith}
 use mathlib.Core.Path.{_≡_, refl, _∙_}
 use mathlib.Core.Bool.{Bool, true, false, cond, not, _&&_, _||_}

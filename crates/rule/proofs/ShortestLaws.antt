@@ -4,19 +4,18 @@ use mathlib.Core.Path.{_≡_, refl, sym, ap, _∙_}
 use mathlib.Core.Bool.{Bool, true, false}
 use mathlib.Core.Logic.{_⊎_, inl, inr, ⊎-elim}
 use mathlib.Core.List.{List, [], _∷_}
-use Prim.Native.Nat.{ℕ, zero, suc, _+_, _-_, _^_, _≤_, _<_}
+use Prim.Native.Nat.{ℕ, zero, suc, _-_, _^_, _≤_, _<_}
 use native.Mathlib.Omega.{arith}
-use native.Mathlib.Nat.{add-zero, add-suc}
 use lib.ListN.{length}
 use lib.Dec.{ltb}
-use borrow.Author.Tests.{lt-ltb, ltb-true}
 use Rattle.rule.specs.Sets.{has, insert, including, meets}
 use Rattle.rule.specs.Reach.{target, Closed, after, Events, none, more, withMoves}
 use Rattle.rule.specs.Ways.{Meets, Before, here, later, Shortest, eventInto, nearerBelow, within, distance, wayBy, wayInto}
-use Rattle.rule.proofs.SetLaws.{true-or, below-or, including-keeps, including-new, including-from, has-past, has-none, meets-iff}
+use Rattle.rule.proofs.SetLaws.{true-or, below-or, has-past, has-none, meets-iff}
 use Rattle.rule.proofs.MoveLaws.{moves-new, moves-from}
 use Rattle.rule.proofs.BoolLaws.{clash, not-so}
 use Rattle.rule.proofs.LeastLaws.{least-holds, least-first}
+use Rattle.rule.proofs.LayerLaws.{event-in, in-event, nearer-keeps, nearer-new, nearer-event, layer-again}
 use Rattle.rule.proofs.ReachLaws.{reached-iff, reaches-iff}
 
 -- there is one lowest way
@@ -32,45 +31,12 @@ one-way {w = w} {v = v} a b =
     let s : length v ≡ length w = omega (arith, a .shortest v (b .meets), b .shortest w (a .meets)) in
     ⊎-elim (λ q. q) (λ l. ⊎-elim (λ q. sym q) (λ m. absurd (before-not l m)) (b .lowest w (a .meets) (sym s))) (a .lowest v (b .meets) s)
 
--- the states from which one event leads into x
-module _ (next : ℕ → ℕ → ℕ) (k x : ℕ) where
-  abbrev B : ℕ → ℕ
-  B i = nearerBelow next k x i
-
-  below-keeps : (i s : ℕ) → has x s ≡ true → has (B i) s ≡ true
-  unfolding nearerBelow
-  below-keeps zero s q = q
-  below-keeps (suc i) s q =
-      true-or (ltb (eventInto next k x i) k)
-      (λ b. rw b (including-keeps (B i) i s (below-keeps i s q)))
-      (λ b. rw b (below-keeps i s q))
-
-  below-later : (i s : ℕ) → has (B i) s ≡ true → has (B (suc i)) s ≡ true
-  unfolding nearerBelow
-  below-later i s q = true-or (ltb (eventInto next k x i) k) (λ b. rw b (including-keeps (B i) i s q)) (λ b. rw b q)
-
-  below-new : (i s : ℕ) → s < i → i ≤ 64 → eventInto next k x s < k → has (B i) s ≡ true
-  unfolding nearerBelow
-  below-new zero s h f g = absurd (omega arith)
-  below-new (suc i) s h f g =
-      below-or s i
-      (λ l. below-later i s (below-new i s l (omega arith) g))
-      (λ l. let q : s ≡ i = omega arith in rw (← q, lt-ltb _ _ g) (including-new (B s) s (omega arith)))
-
-  below-from : (i s : ℕ) → has x s ≡ false → has (B i) s ≡ true → eventInto next k x s < k
-  unfolding nearerBelow
-  below-from zero s o q = clash q o
-  below-from (suc i) s o q =
-      true-or (ltb (eventInto next k x i) k)
-      (λ b. ⊎-elim (below-from i s o) (λ e. rw (← e) (ltb-true _ _ b)) (including-from (B i) i s (rw b at q)))
-      (λ b. below-from i s o (rw b at q))
-
 -- a member of x is no news
 pub below-same : (next : ℕ → ℕ → ℕ) (k x i : ℕ) → has x i ≡ true → nearerBelow next k x (suc i) ≡ nearerBelow next k x i
 unfolding nearerBelow including insert
 below-same next k x i q =
     true-or (ltb (eventInto next k x i) k)
-    (λ b. true-or (ltb i 64) (λ c. rw (b, c, below-keeps next k x i i q)) (λ c. rw (b, c)))
+    (λ b. true-or (ltb i 64) (λ c. rw (b, c, nearer-keeps next k x i i q)) (λ c. rw (b, c)))
     (λ b. rw b)
 
 -- s is in layer m and in none before
@@ -112,19 +78,12 @@ module _ (next : ℕ → ℕ → ℕ) (n k x : ℕ) (closed : (s e : ℕ) → s 
   step m s = eventInto next k (W m) s
 
   again : (m s e : ℕ) → s < n → e < k → has (W m) (next s e) ≡ true → has (W (suc m)) s ≡ true
-  unfolding within eventInto
-  again m s e h g q =
-      below-new next k (W m) n s h fits
-      (below-or (step m s) k (λ l. l) (λ l. clash q (least-first (λ e. has (W m) (next s e)) k e (omega arith))))
+  again m s e h g q = rw (layer-again next n k x m) (nearer-new next k (W m) n s e h (omega arith) g q)
 
   -- the lowest event that leads one event nearer
   pub step-in : (m s : ℕ) → has (W m) s ≡ false → has (W (suc m)) s ≡ true → step m s < k
   unfolding within
-  step-in m s o q = below-from next k (W m) n s o q
-
-  pub step-near : (m s : ℕ) → step m s < k → has (W m) (next s (step m s)) ≡ true
-  unfolding eventInto
-  step-near m s h = least-holds (λ e. has (W m) (next s e)) k h
+  step-in m s o q = nearer-event next k (W m) n s o q
 
   step-first : (m s e : ℕ) → e < step m s → has (W m) (next s e) ≡ false
   unfolding eventInto
@@ -132,11 +91,6 @@ module _ (next : ℕ → ℕ → ℕ) (n k x : ℕ) (closed : (s e : ℕ) → s 
 
   rest-meets : {s e : ℕ} {v : List ℕ} → Meets k next (has x) s (e ∷ v) → Meets k next (has x) (next s e) v
   rest-meets w = record { known = known-rest (w .known); ends = w .ends }
-
-  pub within-later : (m i s : ℕ) → has (within next n k x m) s ≡ true → has (within next n k x (m + i)) s ≡ true
-  unfolding within
-  within-later m zero s q = rw add-zero q
-  within-later m (suc i) s q = rw add-suc (below-keeps next k (within next n k x (m + i)) n s (within-later m i s q))
 
   -- where some events meet the goal, so many are enough
   pub met-within : (v : List ℕ) (s : ℕ) → s < n → Meets k next (has x) s v → has (W (length v)) s ≡ true
@@ -152,7 +106,7 @@ module _ (next : ℕ → ℕ → ℕ) (n k x : ℕ) (closed : (s e : ℕ) → s 
   pub way-first : (m s : ℕ) → s < n → First (suc m) s → First m (next s (step m s))
   way-first m s h f =
       let g = step-in m s (f .1 m (omega arith)) (f .0) in
-      (step-near m s g, λ j l. not-so _ (λ q. clash (again j s (step m s) h g q) (f .1 (suc j) (omega arith))))
+      (event-in next k (W m) s g, λ j l. not-so _ (λ q. clash (again j s (step m s) h g q) (f .1 (suc j) (omega arith))))
 
   way-meets : (m s : ℕ) → s < n → First m s → Meets k next (has x) s (wayBy next n k x m s)
   unfolding within wayBy
@@ -218,21 +172,17 @@ module _ (table : List ℕ) (k s x : ℕ) (fits : x < 2 ^ 64) where
   R = withMoves table k s 0 k
 
   pub row-meets : eventInto (target table k) k x s < k → meets R x ≡ true
-  unfolding eventInto
   row-meets h =
       let e = eventInto (target table k) k x s in
       let t = target table k s e in
-      let m : has x t ≡ true = least-holds (λ e. has x (target table k s e)) k h in
+      let m : has x t ≡ true = event-in (target table k) k x s h in
       let l : t < 64 = below-or t 64 (λ l. l) (λ l. clash m (has-past 64 x t fits l)) in
       meets-iff R x .1 (t, l, moves-new table k s 0 k e h l, m)
 
   pub meets-row : meets R x ≡ true → eventInto (target table k) k x s < k
-  unfolding eventInto
   meets-row q =
       let w = meets-iff R x .0 q in
       ⊎-elim
       (λ z. clash z (has-none (w .0)))
-      (λ v.
-      below-or (eventInto (target table k) k x s) k (λ l. l)
-      (λ l. clash (w .3) (rw (v .2) at (least-first (λ e. has x (target table k s e)) k (v .0) (omega (arith, v .1))))))
+      (λ v. in-event (target table k) k x s (v .0) (v .1) (rw (v .2) (w .3)))
       (moves-from table k s 0 k (w .0) (w .2))

@@ -1,14 +1,11 @@
 -- With one pair both modes have the same answer, but for the pair that a store names. Assumes nothing.
-use Prim.Native.Nat.{ℕ, _^_, _<_}
+use Prim.Native.Nat.{ℕ, _<_}
 use native.Mathlib.Omega.{arith}
 use native.Mathlib.Nat.{lt-of-lt-of-le}
 use mathlib.Core.Path.{_≡_, refl, sym, ap, _∙_}
 use mathlib.Core.Bool.{Bool, true, false, cond}
-use mathlib.Core.List.{List}
 use lib.Bits.{or-lt}
-use lib.ListN.{length, getD}
 use lib.Pow.{pow-mono}
-use Rattle.rule.specs.Sets.{has}
 use Rattle.rule.specs.Drawing.{Drawing, states, events, count, next, joint, pairAt, inMode}
 use Rattle.rule.specs.Acceptance.{meetsPair, meetsAll, goodOf}
 use Rattle.rule.specs.Operations.{reachOf, operationAt}
@@ -17,11 +14,11 @@ use Rattle.rule.specs.WellDrawn.{WellDrawn}
 use Rattle.rule.specs.declared.Operation.{Operation}
 use Rattle.rule.specs.declared.Operation.the-variants.{Halt, Store, Dump}
 use Rattle.rule.proofs.SetLaws.{those-is}
-use Rattle.rule.proofs.BoolLaws.{chosen, itself}
+use Rattle.rule.proofs.BoolLaws.{itself}
 use Rattle.rule.proofs.PairLaws.{meets-all}
 use Rattle.rule.proofs.BackwardLaws.{same-says}
 use Rattle.rule.proofs.ModeLaws.{well-in, one-pair-same}
-use Rattle.why.specs.Grounds.{goalOf, lostAmong, unmetAmong, lostPair, wantedPair, goalSet, wayFor, wayBy, wayTold}
+use Rattle.why.specs.Grounds.{goalOf, unmetAmong, lostPair, wantedPair, goalSet, wayFor, forStore, wayTold}
 use Rattle.why.proofs.GroundLaws.{goal-is, some-unmet}
 
 module _ (d : Drawing) (well : WellDrawn d) (one : count d ≡ 1) where
@@ -60,7 +57,7 @@ module _ (d : Drawing) (well : WellDrawn d) (one : count d ≡ 1) (mode t : ℕ)
   unfolding wayTold wayFor goodOf
   one-told = by (operationAt d t) refl
     where
-      by : (o : Operation) → operationAt d t ≡ o → wayBy (operationAt (inMode mode d) t) (wayFor (inMode mode d) t) ≡ wayBy (operationAt d t) (wayFor d t)
+      by : (o : Operation) → operationAt d t ≡ o → forStore (operationAt (inMode mode d) t) (wayFor (inMode mode d) t) ≡ forStore (operationAt d t) (wayFor d t)
       by Halt q = rw (one-operation, q)
       by Store q =
           rw (one-operation, q)

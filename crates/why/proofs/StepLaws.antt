@@ -13,7 +13,8 @@ use Rattle.rule.specs.Sets.{has}
 use Rattle.rule.specs.Ways.{eventInto, within, wayBy}
 use Rattle.rule.proofs.SetLaws.{true-or, below-or}
 use Rattle.rule.proofs.BoolLaws.{clash}
-use Rattle.rule.proofs.ShortestLaws.{FirstAt, step-in, within-later, way-first}
+use Rattle.rule.proofs.LayerLaws.{layer-later}
+use Rattle.rule.proofs.ShortestLaws.{FirstAt, step-in, way-first}
 use Rattle.why.specs.Steps.{stepsBelow, stepsWithin, followed}
 
 module _ (next : ℕ → ℕ → ℕ) (k x : ℕ) (l : List ℕ) where
@@ -76,7 +77,7 @@ module _ (next : ℕ → ℕ → ℕ) (n k x : ℕ) (closed : (s e : ℕ) → s 
       below-or j m
       (λ c.
       let p : suc j + (m - suc j) ≡ m = omega arith in
-      let i : has (within next n k x m) s ≡ true = rw p at (within-later next n k x closed fits (suc j) (m - suc j) s (f .0)) in
+      let i : has (within next n k x m) s ≡ true = rw p at (layer-later next n k x (suc j) (m - suc j) s (f .0)) in
       steps-keep next k (within next n k x m) (Steps m) n s i ∙ guided m j s c h f)
       (λ c.
       let q : j ≡ m = omega arith in

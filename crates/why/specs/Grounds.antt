@@ -76,11 +76,11 @@ goalSet d i = cond (joint d) (goodOf d) (goalOf (pairAt d i))
 unfoldable pub wayFor : Drawing → ℕ → List ℕ
 wayFor d t = wayInto (next d) (states d) (events d) (goalSet d (wantedPair d t)) t
 
--- the way that is told: a halt and a dump have none
-abbrev pub wayBy : Operation → List ℕ → List ℕ
-wayBy Halt w = []
-wayBy Store w = w
-wayBy Dump w = []
+-- the way that is told: all of it for a store, and none for a halt and a dump
+abbrev pub forStore : Operation → List ℕ → List ℕ
+forStore Halt w = []
+forStore Store w = w
+forStore Dump w = []
 
 unfoldable pub wayTold : Drawing → ℕ → List ℕ
-wayTold d t = wayBy (operationAt d t) (wayFor d t)
+wayTold d t = forStore (operationAt d t) (wayFor d t)
