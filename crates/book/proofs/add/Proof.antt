@@ -25,15 +25,5 @@ returns-4 c = search (needs, add-put)
 pub add-spec : {M : Type 1} → statement M
 add-spec =
     tie.close
-    (tie.spec
-    (λ c κs. search needs)
-    returns
-    (λ c κs. search needs)
-    (λ c. search needs)
-    returns-2
-    (λ c. search needs)
-    count-in-requires
-    returns-3
-    put-book-requires
-    (λ c. search needs)
-    returns-4)
+    (tie.spec (λ c κs. search needs) returns (λ c κs. search needs) (λ c. search needs) returns-2 (λ c. search needs) count-in-requires returns-3
+    put-book-requires (λ c. search needs) returns-4)

@@ -29,22 +29,6 @@ returns-3 c = search (needs, no-part)
 pub find-spec : {M : Type 1} → statement M
 find-spec =
     tie.close
-    (tie.spec
-    (λ c κs. search needs)
-    (λ c. search needs)
-    add-end
-    (λ c. search needs)
-    (λ c. search needs)
-    part-result-end
-    (λ c. search needs)
-    add-end-2
-    (λ c. search needs)
-    (λ c. search needs)
-    part-result-end-2
-    (λ c. search needs)
-    (λ c. search needs)
-    (λ c. search needs)
-    (λ c. search needs)
-    returns
-    returns-2
-    returns-3)
+    (tie.spec (λ c κs. search needs) (λ c. search needs) add-end (λ c. search needs) (λ c. search needs) part-result-end (λ c. search needs) add-end-2
+    (λ c. search needs) (λ c. search needs) part-result-end-2 (λ c. search needs) (λ c. search needs) (λ c. search needs) (λ c. search needs) returns
+    returns-2 returns-3)

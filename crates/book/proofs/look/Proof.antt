@@ -34,21 +34,5 @@ returns-7 c = search (needs, office-nowhere)
 pub look-spec : {M : Type 1} → statement M
 look-spec =
     tie.close
-    (tie.spec
-    (λ c κs. search needs)
-    returns
-    (λ c κs. search needs)
-    returns-2
-    sought-requires
-    (λ c. search needs)
-    (λ c. search needs)
-    (λ c. search needs)
-    sought-requires-2
-    (λ c. search needs)
-    (λ c. search needs)
-    (λ c. search needs)
-    returns-3
-    returns-4
-    returns-5
-    returns-6
-    returns-7)
+    (tie.spec (λ c κs. search needs) returns (λ c κs. search needs) returns-2 sought-requires (λ c. search needs) (λ c. search needs) (λ c. search needs)
+    sought-requires-2 (λ c. search needs) (λ c. search needs) (λ c. search needs) returns-3 returns-4 returns-5 returns-6 returns-7)

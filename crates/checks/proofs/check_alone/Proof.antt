@@ -33,15 +33,5 @@ returns-2 c = search (needs, stopped-all)
 pub check-alone-spec : {M : Type 1} → statement M
 check-alone-spec =
     tie.close
-    (tie.spec
-    Inv-loop
-    μ-loop
-    (λ c κs. search needs)
-    loop-holds
-    (λ c κs. search needs)
-    (λ c κs. search needs)
-    returns
-    (λ c. omega arith)
-    (λ c. omega arith)
-    loop-again
-    returns-2)
+    (tie.spec Inv-loop μ-loop (λ c κs. search needs) loop-holds (λ c κs. search needs) (λ c κs. search needs) returns (λ c. omega arith) (λ c. omega arith)
+    loop-again returns-2)

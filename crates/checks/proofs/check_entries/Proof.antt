@@ -48,21 +48,5 @@ returns-3 c = entry-hit _ _ _ _ (c .before .before .next .ensures) (search needs
 pub check-entries-spec : {M : Type 1} → statement M
 check-entries-spec =
     tie.close
-    (tie.spec
-    Inv-loop
-    μ-loop
-    Inv-cells
-    μ-cells
-    (λ c κs. search needs)
-    returns
-    cells-holds
-    loop-holds
-    (λ c κs. search needs)
-    (λ c. omega arith)
-    (λ c. omega arith)
-    loop-again
-    (λ c. omega arith)
-    (λ c. omega arith)
-    cells-again
-    returns-2
-    returns-3)
+    (tie.spec Inv-loop μ-loop Inv-cells μ-cells (λ c κs. search needs) returns cells-holds loop-holds (λ c κs. search needs) (λ c. omega arith)
+    (λ c. omega arith) loop-again (λ c. omega arith) (λ c. omega arith) cells-again returns-2 returns-3)

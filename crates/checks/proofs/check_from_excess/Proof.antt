@@ -8,7 +8,5 @@ use Rattle.checks.proofs.check_from_excess.Tie as tie
 pub check-from-excess-spec : {M : Type 1} → statement M
 check-from-excess-spec =
     tie.close
-    (tie.spec
-    (λ c κs. search needs) (λ c. search needs) (λ c. search needs) (λ c. search chain)
-    (λ c κs. search needs) (λ c. search needs) (λ c. search needs) (λ c. search chain)
-    (λ c κs. search needs) (λ c. search chain))
+    (tie.spec (λ c κs. search needs) (λ c. search needs) (λ c. search needs) (λ c. search chain)
+    (λ c κs. search needs) (λ c. search needs) (λ c. search needs) (λ c. search chain) (λ c κs. search needs) (λ c. search chain))

@@ -60,23 +60,5 @@ returns-3 c =
 pub check-moves-spec : {M : Type 1} → statement M
 check-moves-spec =
     tie.close
-    (tie.spec
-    Inv-loop
-    μ-loop
-    Inv-rows
-    μ-rows
-    returns
-    rows-holds
-    (λ c κs. search needs)
-    loop-holds
-    (λ c κs. search needs)
-    (λ c κs. search needs)
-    (λ c κs. search needs)
-    (λ c. omega arith)
-    (λ c. omega arith)
-    loop-again
-    (λ c. omega arith)
-    (λ c. omega arith)
-    rows-again
-    returns-2
-    returns-3)
+    (tie.spec Inv-loop μ-loop Inv-rows μ-rows returns rows-holds (λ c κs. search needs) loop-holds (λ c κs. search needs) (λ c κs. search needs)
+    (λ c κs. search needs) (λ c. omega arith) (λ c. omega arith) loop-again (λ c. omega arith) (λ c. omega arith) rows-again returns-2 returns-3)

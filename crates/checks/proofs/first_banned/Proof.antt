@@ -50,15 +50,5 @@ returns-3 c = search (needs, moves-all)
 pub first-banned-spec : {M : Type 1} → statement M
 first-banned-spec =
     tie.close
-    (tie.spec
-    Inv-loop
-    μ-loop
-    returns
-    loop-holds
-    (λ c κs. search needs)
-    (λ c κs. search needs)
-    returns-2
-    (λ c. search needs)
-    (λ c. search needs)
-    loop-again
+    (tie.spec Inv-loop μ-loop returns loop-holds (λ c κs. search needs) (λ c κs. search needs) returns-2 (λ c. search needs) (λ c. search needs) loop-again
     returns-3)

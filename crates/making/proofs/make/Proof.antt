@@ -26,14 +26,5 @@ returns-2 c = search (needs, made)
 pub make-spec : {M : Type 1} → statement M
 make-spec =
     tie.close
-    (tie.spec
-    (λ c κs. search needs)
-    (λ c. search needs)
-    returns
-    (λ c. search needs)
-    sub-put
-    part-put-start
-    part-put-end
-    put-requires
-    (λ c. search needs)
+    (tie.spec (λ c κs. search needs) (λ c. search needs) returns (λ c. search needs) sub-put part-put-start part-put-end put-requires (λ c. search needs)
     returns-2)

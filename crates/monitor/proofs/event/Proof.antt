@@ -16,12 +16,4 @@ returns-2 c = search (needs, event-opened)
 pub event-spec : {M : Type 1} → statement M
 event-spec =
     tie.close
-    (tie.spec
-    (λ c κs. search needs)
-    (λ c. search needs)
-    (λ c. search needs)
-    returns
-    step-requires
-    (λ c. search needs)
-    (λ c. search needs)
-    returns-2)
+    (tie.spec (λ c κs. search needs) (λ c. search needs) (λ c. search needs) returns step-requires (λ c. search needs) (λ c. search needs) returns-2)

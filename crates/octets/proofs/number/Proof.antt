@@ -63,15 +63,4 @@ returns c =
 pub number-spec : {M : Type 1} → statement M
 number-spec =
     tie.close
-    (tie.spec
-    Inv-loop
-    μ-loop
-    loop-holds
-    (λ c. omega arith)
-    mul-x
-    (λ c. omega arith)
-    cast-x
-    add-x
-    (λ c. omega arith)
-    loop-again
-    returns)
+    (tie.spec Inv-loop μ-loop loop-holds (λ c. omega arith) mul-x (λ c. omega arith) cast-x add-x (λ c. omega arith) loop-again returns)

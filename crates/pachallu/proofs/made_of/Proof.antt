@@ -10,5 +10,4 @@ ruleset steps = (needs, made-done, made-refused)
 pub made-of-spec : {M : Type 1} → statement M
 made-of-spec =
     tie.close
-    (tie.spec
-    (λ c. search steps) (λ c. search steps) (λ c κs. search steps) (λ c. search steps) (λ c. search steps))
+    (tie.spec (λ c. search steps) (λ c. search steps) (λ c κs. search steps) (λ c. search steps) (λ c. search steps))

@@ -10,5 +10,4 @@ ruleset steps = (needs, evening-told)
 pub pachallu-events-spec : {M : Type 1} → statement M
 pachallu-events-spec =
     tie.close
-    (tie.spec
-    (λ c κs. search steps) (λ c κs. search steps) (λ c. search steps) (λ c. search steps) (λ c. search steps))
+    (tie.spec (λ c κs. search steps) (λ c κs. search steps) (λ c. search steps) (λ c. search steps) (λ c. search steps))

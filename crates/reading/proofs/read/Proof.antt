@@ -27,18 +27,5 @@ returns-2 c = search (needs, read-sound)
 pub read-spec : {M : Type 1} → statement M
 read-spec =
     tie.close
-    (tie.spec
-    (λ c κs. search needs)
-    (λ c. search needs)
-    (λ c κs. search needs)
-    returns
-    (λ c. search needs)
-    slice-aggregate-copy
-    (λ c. search needs)
-    (λ c κs. search needs)
-    sub-copy
-    part-copy-start
-    part-copy-end
-    (λ c. search needs)
-    (λ c κs. search needs)
-    returns-2)
+    (tie.spec (λ c κs. search needs) (λ c. search needs) (λ c κs. search needs) returns (λ c. search needs) slice-aggregate-copy (λ c. search needs)
+    (λ c κs. search needs) sub-copy part-copy-start part-copy-end (λ c. search needs) (λ c κs. search needs) returns-2)

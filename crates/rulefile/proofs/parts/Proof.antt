@@ -56,33 +56,7 @@ returns-4 c = search (needs, body-right)
 pub parts-spec : {M : Type 1} → statement M
 parts-spec =
     tie.close
-    (tie.spec
-    (λ c κs. search needs)
-    (λ c κs. search needs)
-    returns
-    sub-trailer-of
-    (λ c. search needs)
-    (λ c. search needs)
-    (λ c. search needs)
-    (λ c κs. search needs)
-    (λ c κs. search needs)
-    (λ c. search needs)
-    (λ c κs. search needs)
-    returns-2
-    (λ c. search needs)
-    sub-start
-    sub-end
-    sub-pairs-of
-    sub-pairs-of-2
-    part-pairs-of-start
-    (λ c. search needs)
-    pairs-of-requires
-    sub-check-body
-    part-check-body-start
-    (λ c. search needs)
-    (λ c κs. search needs)
-    (λ c. search needs)
-    (λ c κs. search needs)
-    returns-3
-    (λ c. search needs)
-    returns-4)
+    (tie.spec (λ c κs. search needs) (λ c κs. search needs) returns sub-trailer-of (λ c. search needs) (λ c. search needs) (λ c. search needs)
+    (λ c κs. search needs) (λ c κs. search needs) (λ c. search needs) (λ c κs. search needs) returns-2 (λ c. search needs) sub-start sub-end sub-pairs-of
+    sub-pairs-of-2 part-pairs-of-start (λ c. search needs) pairs-of-requires sub-check-body part-check-body-start (λ c. search needs) (λ c κs. search needs)
+    (λ c. search needs) (λ c κs. search needs) returns-3 (λ c. search needs) returns-4)

@@ -14,12 +14,5 @@ put-parts-requires c κs = search (needs, room-for)
 pub put-file-spec : {M : Type 1} → statement M
 put-file-spec =
     tie.close
-    (tie.spec
-    (λ c. search needs)
-    (λ c. search needs)
-    (λ c. search needs)
-    (λ c κs. search needs)
-    returns
-    put-parts-requires
-    (λ c. search needs)
+    (tie.spec (λ c. search needs) (λ c. search needs) (λ c. search needs) (λ c κs. search needs) returns put-parts-requires (λ c. search needs)
     (λ c. search needs))

@@ -39,24 +39,6 @@ returns-3 c = search (needs, rule-put)
 pub write-spec : {M : Type 1} → statement M
 write-spec =
     tie.close
-    (tie.spec
-    (λ c κs. search needs)
-    (λ c. search needs)
-    returns
-    (λ c. search needs)
-    (λ c. search needs)
-    (λ c. search needs)
-    mul-cells
-    array-share-prefix-table
-    slice-aggregate-check-body
-    (λ c κs. search needs)
-    (λ c. search needs)
-    returns-2
-    (λ c. search needs)
-    array-share-prefix-note
-    slice-aggregate-put-file
-    array-share-prefix-table-2
-    slice-aggregate-put-file-2
-    (λ c κs. search needs)
-    (λ c. search needs)
-    returns-3)
+    (tie.spec (λ c κs. search needs) (λ c. search needs) returns (λ c. search needs) (λ c. search needs) (λ c. search needs) mul-cells
+    array-share-prefix-table slice-aggregate-check-body (λ c κs. search needs) (λ c. search needs) returns-2 (λ c. search needs) array-share-prefix-note
+    slice-aggregate-put-file array-share-prefix-table-2 slice-aggregate-put-file-2 (λ c κs. search needs) (λ c. search needs) returns-3)

@@ -42,22 +42,5 @@ returns-3 c = search (needs, seek-aged)
 pub seek-in-spec : {M : Type 1} → statement M
 seek-in-spec =
     tie.close
-    (tie.spec
-    Inv-loop
-    μ-loop
-    loop-holds
-    (λ c. search needs)
-    (λ c. search needs)
-    (λ c. search needs)
-    (λ c. search needs)
-    (λ c κs. search needs)
-    sub-start
-    (λ c κs. search needs)
-    returns
-    (λ c. search needs)
-    (λ c. search needs)
-    loop-again
-    (λ c. search needs)
-    loop-again-2
-    returns-2
-    returns-3)
+    (tie.spec Inv-loop μ-loop loop-holds (λ c. search needs) (λ c. search needs) (λ c. search needs) (λ c. search needs) (λ c κs. search needs) sub-start
+    (λ c κs. search needs) returns (λ c. search needs) (λ c. search needs) loop-again (λ c. search needs) loop-again-2 returns-2 returns-3)

@@ -49,9 +49,7 @@ returns-2 c = search (needs, calls-over)
 pub each-spec : {M : Type 1} → statement M
 each-spec =
     tie.close
-    (tie.spec
-    Inv-loop μ-loop loop-holds (λ c. search needs) (λ c. search needs) (λ c. search needs) (λ c. search needs) (λ c κs. search needs)
+    (tie.spec Inv-loop μ-loop loop-holds (λ c. search needs) (λ c. search needs) (λ c. search needs) (λ c. search needs) (λ c κs. search needs)
     (λ c. search needs) add-released (λ c. search needs) (λ c. search needs) loop-again
     (λ c. search needs) add-ignored (λ c. search needs) (λ c. search needs) loop-again-2
-    (λ c. search needs) ended-requires (λ c. search needs) (λ c. search needs) returns
-    ended-requires-2 (λ c. search needs) (λ c. search needs) returns-2)
+    (λ c. search needs) ended-requires (λ c. search needs) (λ c. search needs) returns ended-requires-2 (λ c. search needs) (λ c. search needs) returns-2)

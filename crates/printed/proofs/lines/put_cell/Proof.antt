@@ -10,6 +10,5 @@ ruleset steps = (needs, cell-put)
 pub put-cell-spec : {M : Type 1} → statement M
 put-cell-spec =
     tie.close
-    (tie.spec
-    (λ c κs. search steps) (λ c. search steps) (λ c κs. search steps) (λ c κs. search steps) (λ c κs. search steps) (λ c κs. search steps)
+    (tie.spec (λ c κs. search steps) (λ c. search steps) (λ c κs. search steps) (λ c κs. search steps) (λ c κs. search steps) (λ c κs. search steps)
     (λ c. search steps) (λ c. search steps))

@@ -14,6 +14,5 @@ put-stop-spec =
     tie.close
     (tie.spec
     (λ c κs. search steps) (λ c. search steps) (λ c. search steps) (λ c κs. search steps) (λ c. search steps) (λ c. search steps) (λ c. search steps)
-    (λ c. search steps)
-    (λ c. stop-not _ _ (c .before .before .at .ensures) (c .enum-told2 .given .1) refl (omega arith) (omega arith))
+    (λ c. search steps) (λ c. stop-not _ _ (c .before .before .at .ensures) (c .enum-told2 .given .1) refl (omega arith) (omega arith))
     (λ c. stop-not _ _ (c .before .before .at .ensures) (c .enum-told3 .given .1) refl (omega arith) (omega arith)))
