@@ -1,4 +1,5 @@
 -- what each return and each turn of a loop comes to
+pub mod BanLaws
 pub mod CheckLaws
 pub mod LookLaws
 pub mod HeldLaws

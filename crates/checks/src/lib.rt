@@ -14,7 +14,10 @@ ghost use Rattle.rule.specs.Sets.{namesPast};
 ghost use Rattle.rule.specs.Stopping.{stoppingJoint};
 ghost use Rattle.rule.specs.declared.Refusal.the-variants.{Range};
 ghost use Rattle.checks.specs.Checked.{holds, allBelow, checkedOf};
-use classes::banned;
+
+mod classes;
+
+use crate::classes::banned;
 use operations::good_states;
 use operations::stops;
 use reach::event_into;

@@ -12,14 +12,13 @@ use Rattle.octets.specs.Numbers as numbers
 use Rattle.octets.specs.Numbers.{digits}
 use Rattle.rule.specs.Range.{inRange}
 use Rattle.rule.specs.Acceptance.{meetsAll}
-use Rattle.rule.specs.Sets.{those, has, including, Members}
+use Rattle.rule.specs.Sets.{those, has, including}
 use Rattle.rule.specs.Backward.{reaching}
 use Rattle.rule.specs.Reach.{placeOf, target, withMoves, reachedWithin}
 use Rattle.rule.specs.Ways.{eventInto}
 use Rattle.rule.specs.Drawing.{body}
 use Rattle.rule.specs.Operations.{markOf, valueOf, smallestOf}
 use Rattle.rule.specs.Stopping.{stopsBy}
-use Rattle.rule.specs.Classes.{forbidsSome}
 use Rattle.rule.specs.Refusals.{toldOf, firstOf}
 use Rattle.rule.specs.Refusals as paper
 use Rattle.checks.specs.Checked.{checkedOf}
@@ -41,8 +40,6 @@ use Rattle.why.specs.Why.{WhyPromise}
 use Rattle.printed.specs.Printing.{PrintPromise}
 use Rattle.pachallu.specs.Told.{MakeForC, PrintForC, FindForC, AddForC, FreshForC, EventForC, EveningForC, WhyForC}
 use Rattle.rulefile.proofs as rulefile
-use Rattle.reading.proofs as reading
-use Rattle.writing.proofs as writing
 use Rattle.book.proofs as book
 use Rattle.making.proofs as making
 use Rattle.sheet.proofs as sheet
@@ -53,7 +50,6 @@ use Rattle.printed.proofs as printed
 use Rattle.pachallu.proofs as pachallu
 use Rattle.trailer.proofs as trailer
 use Rattle.checks.proofs as checks
-use Rattle.classes.proofs as classes
 use Rattle.operations.specs.Marks.{operationIn, marksOf}
 use Rattle.operations.proofs as operations
 use Rattle.reach.proofs as reach
@@ -65,13 +61,13 @@ use Rattle.octets.proofs as octets
 pub parts-keeps : Keeps rulefile.parts.ended rulefile.parts.Reads.Learnt λ κs a r l. r ≡ partsOf (now (a .0))
 parts-keeps κs a x = x .told
 
-pub read-keeps : Keeps reading.read.ended reading.read.Reads.Learnt λ κs a r l. r ≡ readingOf (now (a .0))
+pub read-keeps : Keeps rulefile.read.ended rulefile.read.Reads.Learnt λ κs a r l. r ≡ readingOf (now (a .0))
 read-keeps κs a x = x .told
 
-pub write-keeps : Keeps writing.write.ended writing.write.Reads.Learnt λ κs a r l. WritePromise (a .0) (now (a .1 .0)) r (l .1 .0)
+pub write-keeps : Keeps rulefile.write.ended rulefile.write.Reads.Learnt λ κs a r l. WritePromise (a .0) (now (a .1 .0)) r (l .1 .0)
 write-keeps κs a x = x .told
 
-pub put-file-keeps : Keeps writing.put_file.ended writing.put_file.Reads.Learnt λ κs a r l.
+pub put-file-keeps : Keeps rulefile.put_file.ended rulefile.put_file.Reads.Learnt λ κs a r l.
     FilePromise (parts (a .0) (now (a .1 .0)) (now (a .1 .1 .0)) (a .1 .1 .1 .0)) (now (a .1 .1 .1 .1 .0)) r (l .1 .1 .1 .1 .0)
 put-file-keeps κs a x = x .told
 
@@ -200,10 +196,6 @@ check-moves-keeps κs a x = x .told
 pub check-stopped-keeps : Keeps checks.check_stopped.ended checks.check_stopped.Reads.Learnt λ κs a r l.
     r ≡ paper.stopped (body (a .0) (now (a .1 .0)) (a .1 .1 .0))
 check-stopped-keeps κs a x = x .told
-
-pub banned-keeps : Keeps classes.banned.ended classes.banned.Reads.Learnt λ κs a r l.
-    Members r (forbidsSome (a .0 .class) (take (a .0 .pairs) (a .1 .0)) (a .1 .1 .0 .0))
-banned-keeps κs a x = x .told
 
 -- what is computed of a rule
 

@@ -3,13 +3,15 @@ ghost use mathlib.Core.Path.{_≡_};
 ghost use mathlib.Core.List.{[]};
 ghost use Prim.Native.Nat.{_*_, _≤_};
 ghost use lib.ListN.{length};
-ghost use Rattle.rule.specs.Drawing.{noPair, padded};
+ghost use Rattle.rule.specs.Drawing.{noPair, padded, zeroRule};
 ghost use Rattle.rule.specs.declared.Verdict.the-variants.{Refused};
 ghost use Rattle.rulefile.specs.Layout.{pairIn, upTo};
-ghost use Rattle.rulefile.specs.Reading.{partsBy};
+ghost use Rattle.rulefile.specs.Reading.{partsBy, readingBy};
 use crate::Contents;
+use crate::Reading;
 use rule::Pair;
 use rule::Refusal;
+use rule::Rule;
 use rule::Shape;
 use rule::StateNo;
 use rule::Verdict;
@@ -49,5 +51,29 @@ pub(crate) fn refused(refusal: Refusal) -> Contents
         start: 0,
         end: 0,
         pairs: [Pair { r: 0, p: 0 }; 8],
+    }
+}
+
+// The reading of a file that is refused: a rule with 0 in every place.
+pub(crate) fn unread(refusal: Refusal) -> Reading
+    ensures { λ r. ⌜ r ≡ readingBy (Refused refusal) zeroRule ⌝ }
+{
+    let shape = Shape {
+        class: 0,
+        states: 0,
+        events: 0,
+        pairs: 0,
+        initial: StateNo(0),
+        mode: 0,
+    };
+    Reading {
+        verdict: Verdict::Refused(refusal),
+        rule: Rule {
+            shape,
+            length: 0,
+            note: [0; 1024],
+            table: [0; 2048],
+            pairs: [Pair { r: 0, p: 0 }; 8],
+        },
     }
 }

@@ -17,14 +17,14 @@ use rule::Written;
 
 // Reads a rule file, and where it is sound writes its rule again. A file that is the same is not printed.
 fn read(file: &[u8]) {
-    let reading = reading::read(file);
+    let reading = rulefile::read(file);
     let verdict = reading.verdict;
     if let Verdict::Refused(refusal) = verdict {
         said::refused(refusal);
         return;
     }
     let mut out = [171u8; 3300];
-    said::written(writing::write(reading.rule, &mut out));
+    said::written(rulefile::write(reading.rule, &mut out));
     if same(part(&out, 0, file.len()), file) {
         said::say(b" same");
         said::bytes(part(&out, file.len(), 3300));
@@ -82,7 +82,7 @@ fn rule_of(bytes: &[u8]) -> Rule
 fn write(bytes: &[u8], out: &mut [u8]) -> Written {
     let mut whole = [0u8; 128];
     octets::copy(bytes, &mut whole);
-    writing::write(rule_of(&whole), out)
+    rulefile::write(rule_of(&whole), out)
 }
 
 // The calls that write to an output.

@@ -1,2 +1,0 @@
--- any two results that a promise allows are equal
-pub mod OneAnswer
