@@ -8,6 +8,7 @@ use Rattle.effects.specs.declared.Run.{Run}
 use Rattle.monitor.specs.Evening.{eveningOf, EveningPromise}
 use Rattle.monitor.specs.declared.Evening.{Evening}
 use Rattle.monitor.proofs.EveningGivenLaws.{codes-long, parts-long, evening-passed, evening-19-when, empty-when, first-alone}
+use Rattle.monitor.proofs.EnoughLaws.{memory-enough, output-enough}
 use Rattle.monitor.proofs.TwoLaws.{evening-calls, two-evenings}
 use Rattle.history.proofs.EveningLaws.{evening-history}
 use Rattle.demands.specs.Evening.{OfEvenings, EveningDemand}
@@ -30,6 +31,8 @@ of-evenings sheet run log memory output r memory′ output′ p =
       too-long = rw v (evening-19-when sheet run memory output log);
       empty = λ q y. rw (v, q) (empty-when sheet run memory output y);
       first-only = λ y q a. let z = first-alone sheet run memory output log y (sym v ∙ q) a in (n ∙ ap length (z .0), i ∙ ap length (z .1));
+      memory-enough = λ room q. memory-enough sheet run log memory output room (sym v ∙ q);
+      output-enough = λ room q. output-enough sheet run log memory output room (sym v ∙ q);
     }
 
 pub evening-demand : EveningDemand

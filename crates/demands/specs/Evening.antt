@@ -10,7 +10,7 @@ use lib.ListN.{length, take, drop}
 use Rattle.rule.specs.Given.{Given}
 use Rattle.rule.specs.Refusals.{toldOf, among}
 use Rattle.rule.specs.declared.Refusal.{Refusal}
-use Rattle.rule.specs.declared.Refusal.the-variants.{Log}
+use Rattle.rule.specs.declared.Refusal.the-variants.{Memory, Room, Log}
 use Rattle.rule.specs.declared.Verdict.the-variants.{Sound, Refused}
 use Rattle.rulefile.specs.Layout.{drawingIn}
 use Rattle.effects.specs.declared.Run.{Run}
@@ -39,6 +39,9 @@ pub record OfEvenings (sheet : List ℕ) (run : Run) (log memory output : List �
   pub empty : log ≡ [] → (x : Refusal) → (r .verdict ≡ Refused x) ↔ Given (StandRow sheet run (length memory)) x standOrder
   -- 11 and 12 cannot come after the first event
   pub first-only : (x : Refusal) → r .verdict ≡ Refused x → among (toldOf x .number) standOrder ≡ true → (r .taken ≡ 0) × (r .ignored ≡ 0)
+  -- a memory, or an output, with a byte for each held event and each event of the log is always enough
+  pub memory-enough : run .held + length log ≤ length memory → r .verdict ≡ Refused Memory → ⊥
+  pub output-enough : run .held + length log ≤ length output → r .verdict ≡ Refused Room → ⊥
 
 pub record EveningDemand : Type 0 where
   pub each : (sheet : List ℕ) (run : Run) (log memory output : List ℕ) (r : Evening) (memory′ output′ : List ℕ)

@@ -3,6 +3,7 @@ pub mod CallsLaws
 pub mod EveningLaws
 pub mod FirstLaws
 pub mod EveningGivenLaws
+pub mod EnoughLaws
 pub mod TwoLaws
 pub mod KnownLaws
 pub mod FreshLaws
