@@ -9,14 +9,15 @@ use Rattle.contracts.specs.Contract.{Call, OneAnswer}
 use Rattle.book.specs.Finding.{PartOf, PartBy, lookup_of}
 use Rattle.book.specs.declared.Lookup.{Lookup}
 use Rattle.book.specs.declared.Lookup.TheVariants.{Job, Office, Refused}
+use Rattle.book.specs.contracts
 use Rattle.book.proofs
 
-pub look_one_answer : OneAnswer proofs.look.ended proofs.look.Reads.Learnt
+pub look_one_answer : OneAnswer contracts.look.ended proofs.look.Reads.Learnt
 look_one_answer κs a x y = (x.told ∙ sym y.told, refl)
 
 -- a part's place and bytes; a reference also has a ghost name, which is the proof's alone
-pub find_one_answer : (κs : Lfts (proofs.find.ended).signature.lifetimes) (a : Args (proofs.find.ended).signature κs)
-    (x y : Call proofs.find.ended proofs.find.Reads.Learnt κs a) → (x.result.ref_ptr ≡ y.result.ref_ptr) × (x.result.now ≡ y.result.now)
+pub find_one_answer : (κs : Lfts (contracts.find.ended).signature.lifetimes) (a : Args (contracts.find.ended).signature κs)
+    (x y : Call contracts.find.ended proofs.find.Reads.Learnt κs a) → (x.result.ref_ptr ≡ y.result.ref_ptr) × (x.result.now ≡ y.result.now)
 find_one_answer κs a x y = by (lookup_of a.0.now a.1.0.now a.1.1.0 a.1.1.1.0) x.told y.told
   where
     same : (whole p q : Bor (List ℕ)) (start size : ℕ) → PartOf whole start size p → PartOf whole start size q → (p.ref_ptr ≡ q.ref_ptr) × (p.now ≡ q.now)
@@ -28,5 +29,5 @@ find_one_answer κs a x y = by (lookup_of a.0.now a.1.0.now a.1.1.0 a.1.1.1.0) x
     by (Office start size) s t = same a.1.0 _ _ start size s t
     by (Refused r) s t = same a.0 _ _ 0 0 s t
 
-pub add_one_answer : OneAnswer proofs.add.ended proofs.add.Reads.Learnt
+pub add_one_answer : OneAnswer contracts.add.ended proofs.add.Reads.Learnt
 add_one_answer κs a x y = (x.told.answer ∙ sym y.told.answer, λ i. (tt, (tt, (tt, ((x.told.output ∙ sym y.told.output) i, tt)))))

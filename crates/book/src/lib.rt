@@ -1,4 +1,6 @@
 // A rule book: rule files one after another under rule numbers, looked up in the job's book and then the office's (request M-100).
+#![tactic(auto)]
+
 ghost use Rattle.std.specs.Prelude.{◌≡◌};
 ghost use Rattle.book.specs.Finding.{lookup_of, FindPromise};
 ghost use Rattle.book.specs.Adding.{AddPromise};
@@ -9,7 +11,7 @@ mod growth;
 use rule::{Refusal, Verdict, Written};
 
 // Where a book has a rule: its first byte and its length; or it has the number but none so old; or it does not have the number.
-#[derive(Drop)]
+#[derive(Clone, Copy)]
 pub enum Sought {
     At(usize, usize),
     Older,
@@ -17,7 +19,7 @@ pub enum Sought {
 }
 
 // Where the two books have a rule.
-#[derive(Drop)]
+#[derive(Clone, Copy)]
 pub enum Lookup {
     Job(usize, usize),
     Office(usize, usize),

@@ -1,5 +1,7 @@
 // The checks 5 to 9, once for reading, for writing and for making a sheet: over the shape, the lent table and the pairs.
 // Each answers the first refusal that it finds; none of them looks at the note.
+#![tactic(auto)]
+
 ghost use Rattle.std.specs.Prelude.{◌≡◌, not, ◌&&◌, [], ◌≤◌, take, drop};
 ghost use Rattle.rule.specs.Classes.{forbids_some};
 ghost use Rattle.rule.specs.Drawing.{body, joint, pair_at};

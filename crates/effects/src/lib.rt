@@ -1,4 +1,6 @@
 // What an operation does: to the run state, to the memory and to the output (document 01, "What an operation does").
+#![tactic(auto)]
+
 ghost use Rattle.std.specs.Prelude.{◌≡◌};
 ghost use Rattle.rule.specs.declared.Operation.TheVariants.{Halt};
 ghost use Rattle.effects.specs.Effects.{answer_in, fresh_run, StorePromise, DumpPromise};
@@ -7,14 +9,14 @@ ghost use Rattle.effects.specs.declared.Turn.TheVariants.{Move};
 use rule::{EventNo, Operation, Refusal, StateNo};
 
 // Where a run stands: its state, and how many events the memory holds from its front.
-#[derive(Drop)]
+#[derive(Clone, Copy)]
 pub struct Run {
     pub state: StateNo,
     pub held: usize,
 }
 
 // What one event comes to before the buffers are touched: a move with its operation; nothing, where it is not the rule's business; or a refusal.
-#[derive(Drop)]
+#[derive(Clone, Copy)]
 pub enum Turn {
     Move(Operation, StateNo),
     Ignored,
@@ -22,7 +24,7 @@ pub enum Turn {
 }
 
 // What one event is answered: it was taken; or it was ignored, or refused, and nothing changed.
-#[derive(Drop)]
+#[derive(Clone, Copy)]
 pub enum Answer {
     Taken {
         operation: Operation,

@@ -1,4 +1,6 @@
 // The monitor sheet made from a rule file (document 01, "Layouts").
+#![tactic(auto)]
+
 ghost use Rattle.making.specs.Making.{MakePromise};
 
 mod cells;

@@ -1,4 +1,6 @@
 // The monitor: a fresh start, one event (document 01, "What an operation does"; document 02, M-104), and an evening of events in one call (M-101).
+#![tactic(auto)]
+
 ghost use Rattle.std.specs.Prelude.{◌≡◌, ◌-◌, ◌≤◌};
 ghost use Rattle.monitor.specs.Evening.{EveningPromise};
 ghost use Rattle.monitor.specs.Event.{EventPromise};
@@ -11,7 +13,7 @@ use rule::{EventNo, Refusal, StateNo, Verdict};
 use sheet::Opened;
 
 // What a fresh start comes to: a run, at state 0 with nothing held where the sheet is refused.
-#[derive(Drop)]
+#[derive(Clone, Copy)]
 pub struct Start {
     pub verdict: Verdict,
     pub run: Run,
@@ -45,7 +47,7 @@ pub fn event(sheet: &[u8], run: Run, event: EventNo, memory: &mut [u8], output: 
 }
 
 // What an evening comes to: the run after the events taken, how many were taken, released and ignored, and the refusal that ended it, if one did.
-#[derive(Drop)]
+#[derive(Clone, Copy)]
 pub struct Evening {
     pub run: Run,
     pub taken: usize,

@@ -1,4 +1,6 @@
 // Bytes in lent slices: copied, and read and written as numbers, the lowest byte first.
+#![tactic(auto)]
+
 ghost use Rattle.std.specs.Prelude.{◌≡◌, length, take};
 ghost use Rattle.octets.specs.Numbers.{value_of, digits};
 ghost use Rattle.octets.specs.Copies.{copied};

@@ -1,4 +1,6 @@
 // The operation of a move, by its target, and the stopping states.
+#![tactic(auto)]
+
 ghost use Rattle.std.specs.Prelude.{◌≡◌, take};
 ghost use Rattle.rule.specs.Backward.{lost_by};
 ghost use Rattle.rule.specs.Drawing.{body};
@@ -58,7 +60,7 @@ pub fn operation(pairs: [Pair; 8], count: u8, reached: u64, target: StateNo) -> 
 }
 
 // The states that every pair accepts, and those where a move halts.
-#[derive(Drop)]
+#[derive(Clone, Copy)]
 pub struct Marks {
     pub good: u64,
     pub halt: u64,

@@ -1,4 +1,6 @@
 // What C calls: numbers and byte slices. Each call is one of the house's, and its answer is told in numbers; include/pachallu.h declares them.
+#![tactic(auto)]
+
 ghost use Rattle.std.specs.Prelude.{◌≡◌};
 ghost use Rattle.rule.specs.Refusals.{verdict_told};
 ghost use Rattle.pachallu.specs.Told.{made_of, reason_by, MakeForC, PrintForC, FindForC, AddForC, FreshForC, EventForC, EveningForC, WhyForC};
@@ -13,7 +15,7 @@ pub const IGNORED: u8 = 3;
 
 // What making a sheet, printing a monitor or adding to a book came to. A refusal of 0 is "done".
 #[repr(C)]
-#[derive(Drop)]
+#[derive(Clone, Copy)]
 pub struct Made {
     pub refusal: u8,
     pub a: u8,
@@ -23,7 +25,7 @@ pub struct Made {
 
 // What a fresh start came to.
 #[repr(C)]
-#[derive(Drop)]
+#[derive(Clone, Copy)]
 pub struct Started {
     pub refusal: u8,
     pub a: u8,
@@ -34,7 +36,7 @@ pub struct Started {
 
 // What one event came to. A refused or an ignored one tells the run state that it was given; the operation of an ignored one is 3.
 #[repr(C)]
-#[derive(Drop)]
+#[derive(Clone, Copy)]
 pub struct Answered {
     pub refusal: u8,
     pub a: u8,
@@ -47,7 +49,7 @@ pub struct Answered {
 
 // Where a rule was found: in the job's book (0) or the office's (1), its first byte and its length there.
 #[repr(C)]
-#[derive(Drop)]
+#[derive(Clone, Copy)]
 pub struct Found {
     pub refusal: u8,
     pub a: u8,
@@ -59,7 +61,7 @@ pub struct Found {
 
 // What an evening of events came to: the run state after those taken, how many were taken, released and ignored, and the refusal that ended it, or 0.
 #[repr(C)]
-#[derive(Drop)]
+#[derive(Clone, Copy)]
 pub struct Evening {
     pub refusal: u8,
     pub a: u8,
@@ -74,7 +76,7 @@ pub struct Evening {
 // Why an event is answered as it is: the operation, the pair that is the ground for it, and the length of the way that meets the pair.
 // A dump has no ground, and a halt has no way.
 #[repr(C)]
-#[derive(Drop)]
+#[derive(Clone, Copy)]
 pub struct Reason {
     pub refusal: u8,
     pub a: u8,

@@ -1,4 +1,6 @@
 // The printed monitor: the text that the program `table` writes for a rule file (document 01, "The printed monitor").
+#![tactic(auto)]
+
 ghost use Rattle.printed.specs.Placing.{Put};
 ghost use Rattle.printed.specs.Printing.{PrintPromise};
 ghost use Rattle.printed.specs.Writers.{text_from};

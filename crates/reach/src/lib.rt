@@ -1,4 +1,6 @@
 // The moves of a lent table, and the states that they reach.
+#![tactic(auto)]
+
 ghost use Rattle.std.specs.Prelude.{◌≡◌, ◌-◌};
 ghost use Rattle.rule.specs.Backward.{reaching, with_source, swept_up, swept_down};
 ghost use Rattle.rule.specs.Reach.{target, with_moves, moved_below, moved_set, spread, reached_within};

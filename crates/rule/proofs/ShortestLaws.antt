@@ -20,10 +20,13 @@ use Rattle.rule.proofs.ReachLaws.{reached_iff, reaches_iff}
 
 -- there is one lowest way
 before_not : {w v : List ℕ} → Before w v → Before v w → ⊥
-before_not (here h) (here g) = omega arith
-before_not (here h) (later c) = omega arith
-before_not (later b) (here g) = omega arith
-before_not (later b) (later c) = before_not b c
+before_not = along refl refl
+  where
+    along : {w v w' v' : List ℕ} → w ≡ w' → v ≡ v' → Before w v → Before v' w' → ⊥
+    along p q (here {e = d} {f = e} h) (here {e = e'} {f = d'} g) = let s : d ≡ d' = cc in let t : e ≡ e' = cc in omega arith
+    along p q (here {e = d} {f = e} h) (later {e = e'} c) = let s : d ≡ e' = cc in let t : e ≡ e' = cc in omega arith
+    along p q (later {e = d} b) (here {e = e'} {f = d'} g) = let s : d ≡ d' = cc in let t : d ≡ e' = cc in omega arith
+    along p q (later {w = w} {v = v} b) (later {w = v'} {v = w'} c) = let r : w ≡ w' = cc in let s : v ≡ v' = cc in along r s b c
 
 pub one_way : {k : ℕ} {next : ℕ → ℕ → ℕ} {goal : ℕ → Bool} {t : ℕ} {w v : List ℕ}
     → Shortest k next goal t w → Shortest k next goal t v → w ≡ v

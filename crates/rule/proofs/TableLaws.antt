@@ -95,6 +95,7 @@ module _ {T : Table} where
     where
       alone : (x : Refusal) → Given T x (n ∷ []) → v ≡ Refused x
       alone x (here r) = (d x).1 r
+      alone x (later _ g) = elim g [ ]
 
       none : v ≡ Sound → NoneOf T (n ∷ [])
       none p m a x r = let e = ⊎_elim (λ e. e) (λ q. clash q refl) ((among_says m n []).0 a) in not_both p ((d x).1 (rw e at r))
@@ -134,6 +135,7 @@ module _ {T : Table} where
 
 -- tables with the same rows of these numbers
 along : {T U : Table} {x : Refusal} {l : List ℕ} → ((n : ℕ) (y : Refusal) → among n l ≡ true → T n y ↔ U n y) → Given T x l → Given U x l
+along {l = []} same g = elim g [ ]
 along {l = n ∷ l} same (here r) = here ((same n _ (first_among n l)).0 r)
 along {l = n ∷ l} same (later z g) =
     later (λ y r. z y ((same n y (first_among n l)).1 r)) (along (λ k y a. same k y ((among_says k n l).1 (inr a))) g)
@@ -151,15 +153,15 @@ module _ {T : Table} (order : List ℕ) (within : Within order T) (n : ℕ) (x :
   U = After T n x A
 
   pub after : {b : Bool} (v : Verdict) → Says b A → Answers T order v → Answers U (order ++ (n ∷ [])) (or_else v (refuse_if b x))
-  after v says a = append v (as_rows (λ m y q. (row, old m y q)) a) (λ _. one (decided U n says last from))
+  after v says a = append v (as_rows (λ m y q. (row, old m y q)) a) (λ _. one (decided U n says last (λ y. from y refl)))
     where
       old : (m : ℕ) (y : Refusal) → among m order ≡ true → U m y → T m y
       old m y q (row r) = r
       old m y q (last h) = clash q new
 
-      from : (y : Refusal) → U n y → (x ≡ y) × A
-      from y (row r) = clash (within n y r).listed new
-      from y (last h) = (refl, h)
+      from : {k : ℕ} (y : Refusal) → k ≡ n → U k y → (x ≡ y) × A
+      from {k} y e (row r) = clash (within k y r).listed (rw e new)
+      from y e (last h) = (refl, h)
 
   pub after_within : (told_of x).number ≡ n → Within (order ++ (n ∷ [])) U
   after_within is m y (row r) = let w = within m y r in record { number = w.number; listed = among_ahead m order (n ∷ []) w.listed }

@@ -1,5 +1,7 @@
 // The drawn rule and what it means: document 01, "The rule", in types. specs/ has the meaning, a file for each heading of the
 // paper; proofs/ has its laws. What is computed of a rule stands in the crates reach and operations.
+#![tactic(auto)]
+
 ghost use Rattle.std.specs.Prelude.{◌≡◌};
 ghost use Rattle.rule.specs.Operations.{mark_of};
 ghost use Rattle.rule.specs.Reach.{place_of};
@@ -7,10 +9,10 @@ ghost use Rattle.rule.specs.Range.{in_range};
 ghost use Rattle.rule.specs.Refusals.{tell, told_of};
 
 // A state's number, and an event's code. Each is a type of its own, so that neither stands where the other is meant.
-#[derive(Drop)]
+#[derive(Clone, Copy)]
 pub struct StateNo(pub u8);
 
-#[derive(Drop)]
+#[derive(Clone, Copy)]
 pub struct EventNo(pub u8);
 
 // The place of a cell in a table or a sheet of so many events a row. Every lookup goes by it: the types keep state and event apart.
@@ -21,14 +23,14 @@ pub fn place(events: u8, s: StateNo, e: EventNo) -> usize
 }
 
 // An accepting pair: the sets R and P, bit s for state s.
-#[derive(Drop)]
+#[derive(Clone, Copy)]
 pub struct Pair {
     pub r: u64,
     pub p: u64,
 }
 
 // The class, N, K, m, the initial state and the mode: 0, or 1 for joint.
-#[derive(Drop)]
+#[derive(Clone, Copy)]
 pub struct Shape {
     pub class: u8,
     pub states: u8,
@@ -49,7 +51,7 @@ pub struct Rule {
 }
 
 // The largest N and K that there may be.
-#[derive(Drop)]
+#[derive(Clone, Copy)]
 pub struct Limits {
     pub states: u8,
     pub events: u8,
@@ -83,7 +85,7 @@ impl Rule {
 }
 
 // What the monitor does at a move, rising.
-#[derive(Drop)]
+#[derive(Clone, Copy)]
 pub enum Operation {
     Halt,
     Store,
@@ -104,7 +106,7 @@ impl Operation {
 }
 
 // The refusals by number, with their places A and B where they have any. `toldOf` of specs/ gives each its number; 10 is never given and stays unused.
-#[derive(Drop)]
+#[derive(Clone, Copy)]
 pub enum Refusal {
     Frame,
     Class,
@@ -128,21 +130,21 @@ pub enum Refusal {
 }
 
 // What checking comes to.
-#[derive(Drop)]
+#[derive(Clone, Copy)]
 pub enum Verdict {
     Sound,
     Refused(Refusal),
 }
 
 // What a call that writes comes to: so many bytes at the front of the output, or a refusal.
-#[derive(Drop)]
+#[derive(Clone, Copy)]
 pub enum Written {
     Done(usize),
     Refused(Refusal),
 }
 
 // A refusal as the paper's table has it: its number and its places.
-#[derive(Drop)]
+#[derive(Clone, Copy)]
 pub struct Told {
     pub number: u8,
     pub a: u8,

@@ -1,5 +1,7 @@
 // The rule file: looked at, read and written (document 01, "Layouts" and "Refusal numbers"). specs/ has its layout, and what reading and
 // writing come to; the crate trailer has the checks 1 to 4, the crate checks the others.
+#![tactic(auto)]
+
 ghost use Rattle.std.specs.Prelude.{◌≡◌};
 ghost use Rattle.rulefile.specs.Reading.{parts_of, reading_of};
 ghost use Rattle.rulefile.specs.Writing.{parts, FilePromise, WritePromise};
@@ -10,7 +12,7 @@ mod putting;
 use rule::{Pair, Refusal, Rule, Shape, Verdict, Written};
 
 // A file that was looked at: where it is sound, its shape, its pairs, and where its table stands; else 0 in every place.
-#[derive(Drop)]
+#[derive(Clone, Copy)]
 pub struct Contents {
     pub verdict: Verdict,
     pub shape: Shape,

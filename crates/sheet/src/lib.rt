@@ -1,5 +1,7 @@
 // The monitor sheet: opened (document 01, "Layouts"). specs/ has all of its layout, and what opening and making one come to; the
 // crate making makes it.
+#![tactic(auto)]
+
 ghost use Rattle.std.specs.Prelude.{◌≡◌, ◌+◌, ◌*◌};
 ghost use Rattle.sheet.specs.Opening.{opened_of};
 
@@ -11,7 +13,7 @@ pub const END: usize = 6;
 pub const MARK: u8 = 77;
 
 // What an opened sheet says of itself: N, K and the initial state.
-#[derive(Drop)]
+#[derive(Clone, Copy)]
 pub struct Head {
     pub states: u8,
     pub events: u8,
@@ -19,7 +21,7 @@ pub struct Head {
 }
 
 // What opening a sheet comes to: its head, or refusal 11.
-#[derive(Drop)]
+#[derive(Clone, Copy)]
 pub enum Opened {
     Sheet(Head),
     Refused,

@@ -1,4 +1,6 @@
 // Prints the monitor of the rule file on standard input (document 01, "The printed monitor").
+#![tactic(auto)]
+
 use libc::{STDIN_FILENO, STDOUT_FILENO};
 use rule::Written;
 

@@ -1,5 +1,7 @@
 // The frame of a rule file and its last twelve bytes, the trailer: read, checked, put (document 01, "Layouts" and "Refusal numbers",
 // 1 to 4).
+#![tactic(auto)]
+
 ghost use Rattle.std.specs.Prelude.{◌≡◌, ◌<◌, get_or, take, drop};
 ghost use Rattle.octets.specs.Copies.{copied};
 ghost use Rattle.octets.specs.Numbers.{value_of};
@@ -17,7 +19,7 @@ pub const PAIR: usize = 16;
 pub const LONGEST: usize = 3212;
 
 // What the last twelve bytes of a file say: its shape, and the distances from its end back to the table and to the pairs.
-#[derive(Drop)]
+#[derive(Clone, Copy)]
 pub struct Trailer {
     pub shape: Shape,
     pub tableback: usize,

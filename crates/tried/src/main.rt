@@ -1,5 +1,7 @@
 // Tries the real calls on the cases of a script, which comes on standard input: the head of the file `stdin` tells how it is
 // written. The file `stdout` has what document 01 says of each case.
+#![tactic(auto)]
+
 mod calls;
 mod runs;
 mod said;

@@ -5,7 +5,7 @@ ghost use Rattle.std.specs.Prelude.{◌≤◌, length};
 pub(crate) const UNCLEAR: usize = usize::MAX;
 
 // A number in a text, and where it ends.
-#[derive(Drop)]
+#[derive(Clone, Copy)]
 struct Numeral {
     value: usize,
     end: usize,

@@ -10,6 +10,7 @@ use Rattle.rule.specs.declared.Written.{Written}
 use Rattle.why.specs.Grounds.{lost_pair, wanted_pair}
 use Rattle.why.specs.Why.{ground_by, GroundPromise}
 use Rattle.why.specs.declared.Ground.{Ground}
+use Rattle.why.specs.contracts
 use Rattle.why.proofs
 
 -- the ground at a state, and the output, are one
@@ -21,5 +22,5 @@ ground_one {d = d} {t} x y =
       x.put.output ∙ sym y.put.output,
     )
 
-pub why_one_answer : OneAnswer proofs.why.ended proofs.why.Reads.Learnt
+pub why_one_answer : OneAnswer contracts.why.ended proofs.why.Reads.Learnt
 why_one_answer κs a x y = let q = ground_one x.told y.told in (q.0, λ i. (tt, (tt, (tt, (q.1 i, tt)))))

@@ -1,4 +1,6 @@
 // Why an event is answered as it is: the operation and the ground for it, judged at the state after the event (request M-102).
+#![tactic(auto)]
+
 ghost use Rattle.why.specs.Why.{WhyPromise};
 
 mod grounds;
@@ -9,7 +11,7 @@ use rule::{EventNo, Refusal, StateNo, Verdict};
 
 // The operation with its ground. Halted: the lowest pair that no further events can meet. Held: the lowest pair not yet met, and the
 // number of events of the shortest way that meets it, which stands at the front of the output. Released: no ground is needed.
-#[derive(Drop)]
+#[derive(Clone, Copy)]
 pub enum Ground {
     Halted(u8),
     Held(u8, usize),

@@ -1,0 +1,14 @@
+-- `reach::backward` meets its contract: sweeps until one adds nothing. Each that adds something leaves fewer states outside the set.
+-- Assumes nothing.
+use borrow.Author.Rules.{rules}
+use Prim.Native.Nat.{◌-◌, ◌^◌, ◌<◌}
+use Rattle.rule.specs.Reach.{target}
+use Rattle.rule.proofs.CountLaws.{count}
+use Rattle.rule.proofs.BackwardLaws.{Grown, grown_none, grown_more, up_swept, down_swept, swept_all, swept_less}
+use Rattle.reach.proofs.backward.Given as goal
+
+abbrev pub invariant-loop-back : goal.invariant-loop-back
+invariant-loop-back l = (l.back < 2 ^ 64) × Grown (target l.table l.events) l.states l.events l.set l.back
+
+abbrev pub decreases-loop-back : goal.decreases-loop-back
+decreases-loop-back l = 64 - count l.back 64

@@ -1,0 +1,11 @@
+-- `reach::event_by_cells` meets its contract: no event below e leads from s into the set. Assumes nothing.
+use borrow.Author.Rules.{rules}
+use Prim.Native.Nat.{◌≤◌, ◌-◌}
+use Rattle.reach.proofs.StepLaws.{NoneYet, none_yet, into_more, into_found, into_never}
+use Rattle.reach.proofs.event_by_cells.Given as goal
+
+abbrev pub invariant-loop-e : goal.invariant-loop-e
+invariant-loop-e l = (l.e ≤ l.events) × NoneYet l.table l.events l.s.0 l.set l.e
+
+abbrev pub decreases-loop-e : goal.decreases-loop-e
+decreases-loop-e l = l.events - l.e

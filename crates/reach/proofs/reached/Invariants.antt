@@ -1,0 +1,16 @@
+-- `reach::reached` meets its contract: what is reached from here in the moves left is what is reached from the start in all of them.
+-- Assumes nothing.
+use borrow.Author.Rules.{rules}
+use mathlib.Core.Path.{◌≡◌, refl}
+use Prim.Native.Nat.{◌-◌, ◌^◌, ◌<◌}
+use Rattle.rule.specs.Reach.{moved_below, moved_set, spread}
+use Rattle.reach.proofs.StepLaws.{only_all, only_fresh, loop_done, loop_stops, loop_more}
+use Rattle.reach.proofs.reached.Given as goal
+
+abbrev pub invariant-loop-left : goal.invariant-loop-left
+invariant-loop-left l = (l.seen < 2 ^ 64)
+    × (moved_below l.table l.events l.fresh l.seen l.states ≡ moved_set l.table l.states l.events l.seen)
+    × (spread l.table l.states l.events l.seen (l.left - 1) ≡ spread l.table l.states l.events l.initial.seen (l.states - 1))
+
+abbrev pub decreases-loop-left : goal.decreases-loop-left
+decreases-loop-left l = l.left
