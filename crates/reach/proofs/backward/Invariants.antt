@@ -1,10 +1,9 @@
 -- `reach::backward` meets its contract: sweeps until one adds nothing. Each that adds something leaves fewer states outside the set.
 -- Assumes nothing.
-use borrow.Author.Rules.{rules}
 use Prim.Native.Nat.{◌-◌, ◌^◌, ◌<◌}
 use Rattle.rule.specs.Reach.{target}
 use Rattle.rule.proofs.CountLaws.{count}
-use Rattle.rule.proofs.BackwardLaws.{Grown, grown_none, grown_more, up_swept, down_swept, swept_all, swept_less}
+use Rattle.rule.proofs.BackwardLaws.{Grown}
 use Rattle.reach.proofs.backward.Given as goal
 
 abbrev pub invariant-loop-back : goal.invariant-loop-back

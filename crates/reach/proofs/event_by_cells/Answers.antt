@@ -1,7 +1,6 @@
 -- `reach::event_by_cells` meets its contract: no event below e leads from s into the set. Assumes nothing.
 use borrow.Author.Rules.{rules}
-use Prim.Native.Nat.{◌≤◌, ◌-◌}
-use Rattle.reach.proofs.StepLaws.{NoneYet, none_yet, into_more, into_found, into_never}
+use Rattle.reach.proofs.StepLaws.{none_yet, into_more, into_found, into_never}
 use Rattle.reach.proofs.event_by_cells.Goals as goal
 
 pub loop-e-init : goal.loop-e-init

@@ -1,16 +1,10 @@
 -- `reach::event_into` meets its contract: no event below e leads from s into the set. Assumes nothing.
-use borrow.Author.Rules.{rules}
-use native.Mathlib.Omega.{arith}
 use mathlib.Core.Bool.{false}
-use mathlib.Core.Path.{◌≡◌, ◌∙◌}
-use mathlib.Core.Logic.{⊎_elim}
-use lib.Dec.{ltb}
-use borrow.Author.Tests.{ltb-false, not-true, not-false}
-use Rattle.rule.proofs.BoolLaws.{clash}
+use mathlib.Core.Path.{◌≡◌}
 use Prim.Native.Nat.{◌≤◌, ◌-◌}
 use lib.ListN.{length}
 use Rattle.rule.specs.Reach.{place_of}
-use Rattle.reach.proofs.StepLaws.{NoneYet, none_yet, bit_more, bit_found, into_empty, into_never}
+use Rattle.reach.proofs.StepLaws.{NoneYet}
 use Rattle.reach.proofs.event_into.Given as goal
 
 abbrev pub invariant-loop-e : goal.invariant-loop-e

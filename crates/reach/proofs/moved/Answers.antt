@@ -1,11 +1,8 @@
 -- `reach::moved` meets its contract: the loop goes from one member to the next, and what lies between adds nothing.
 -- Assumes nothing.
 use borrow.Author.Rules.{rules}
-use mathlib.Core.Path.{◌≡◌}
-use Prim.Native.Nat.{◌≤◌, ◌-◌, ◌/◌, ◌^◌}
 use native.Mathlib.Omega.{arith}
 use lib.Count.{trailing_le}
-use Rattle.rule.specs.Reach.{moved_below}
 use Rattle.reach.proofs.StepLaws.{below_none, below_more, below_stop, below_end, lowest_fits, lowest_shift, after_fits, after_le, after_less, rest_more}
 use Rattle.reach.proofs.moved.Goals as goal
 

@@ -1,10 +1,8 @@
 -- `reach::reached` meets its contract: what is reached from here in the moves left is what is reached from the start in all of them.
 -- Assumes nothing.
-use borrow.Author.Rules.{rules}
-use mathlib.Core.Path.{◌≡◌, refl}
+use mathlib.Core.Path.{◌≡◌}
 use Prim.Native.Nat.{◌-◌, ◌^◌, ◌<◌}
 use Rattle.rule.specs.Reach.{moved_below, moved_set, spread}
-use Rattle.reach.proofs.StepLaws.{only_all, only_fresh, loop_done, loop_stops, loop_more}
 use Rattle.reach.proofs.reached.Given as goal
 
 abbrev pub invariant-loop-left : goal.invariant-loop-left

@@ -5,7 +5,7 @@ use Rattle.reach.proofs.StepLaws.{only_all, within}
 use Rattle.reach.proofs.reached_within.Goals as goal
 
 pub spread_within-requires : goal.spread_within-requires
-spread_within-requires c κs = only_all _ _ _ _
+spread_within-requires c = only_all _ _ _ _
 
 pub returns : goal.returns
 returns c = search (rules, within)

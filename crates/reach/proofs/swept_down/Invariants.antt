@@ -1,9 +1,7 @@
 -- `reach::swept_down` meets its contract: a sweep from here down comes to what it comes to from the start. Assumes nothing.
-use borrow.Author.Rules.{rules}
-use mathlib.Core.Path.{◌≡◌, refl}
+use mathlib.Core.Path.{◌≡◌}
 use Rattle.rule.specs.Backward.{swept_down}
 use Rattle.rule.specs.Reach.{target}
-use Rattle.reach.proofs.StepLaws.{down_more, down_all}
 use Rattle.reach.proofs.swept_down.Given as goal
 
 abbrev pub invariant-loop-left : goal.invariant-loop-left

@@ -1,9 +1,5 @@
 -- `reach::swept_up` meets its contract: the states below s were tried. Assumes nothing.
 use borrow.Author.Rules.{rules}
-use mathlib.Core.Path.{◌≡◌}
-use Prim.Native.Nat.{◌≤◌, ◌-◌}
-use Rattle.rule.specs.Backward.{swept_up}
-use Rattle.rule.specs.Reach.{target}
 use Rattle.reach.proofs.StepLaws.{up_none, up_more, up_all}
 use Rattle.reach.proofs.swept_up.Goals as goal
 

@@ -1,12 +1,9 @@
 -- `reach::with_moves` meets its contract: both loops build the definition one event at a time.
 -- Assumes nothing.
-use borrow.Author.Rules.{rules}
 use mathlib.Core.Path.{◌≡◌}
 use Prim.Native.Nat.{◌≤◌, ◌-◌}
-use native.Mathlib.Omega.{arith}
 use lib.ListN.{length}
 use Rattle.rule.specs.Reach.{place_of, with_moves}
-use Rattle.reach.proofs.StepLaws.{moves_none, moves_more, moves_read, moves_all}
 use Rattle.reach.proofs.with_moves.Given as goal
 
 abbrev pub invariant-loop-e : goal.invariant-loop-e
