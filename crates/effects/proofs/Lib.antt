@@ -1,4 +1,4 @@
--- what each return of the code comes to
+-- what a dump comes to
 pub mod EffectLaws
 -- what a turn leaves, and a refusal keeps
 pub mod KeptLaws
