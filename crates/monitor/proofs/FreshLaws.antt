@@ -9,7 +9,7 @@ use Rattle.rule.specs.Drawing.{state_no}
 use Rattle.rule.specs.declared.Refusal.{Refusal}
 use Rattle.rule.specs.declared.Refusal.TheVariants.{Sheet as NoSheet}
 use Rattle.rule.specs.declared.Verdict.TheVariants.{Sound, Refused}
-use Rattle.rule.specs.Given.{Given, here, NoRow, done, refused, Ends}
+use Rattle.rule.specs.Given.{Given, here, later, NoRow, done, refused, Ends}
 use Rattle.rule.proofs.RefusalLaws.{not_both}
 use Rattle.sheet.specs.Opening.{opened_of, opened_told}
 use Rattle.sheet.specs.declared.Head.{Head}
@@ -35,7 +35,7 @@ module _ (sheet : List ℕ) (res : Opened) (open_is : res ≡ opened_of sheet) (
 
 -- a refusal is given exactly when its row of the table holds
 pub fresh_gives : (sheet : List ℕ) (x : Refusal) → ((start_of sheet).verdict ≡ Refused x) ↔ Given (FreshRow sheet) x fresh_order
-fresh_gives sheet x = (λ p. by (opened_of sheet) refl p, λ g. elim g [ here r ↦ from r ])
+fresh_gives sheet x = (λ p. by (opened_of sheet) refl p, λ g. elim g [ here r ↦ from r | later _ r ↦ elim r [ ] ])
   where
     by : (o : Opened) → opened_of sheet ≡ o → (start_by o).verdict ≡ Refused x → Given (FreshRow sheet) x fresh_order
     by (Sheet h) o p = not_both refl p

@@ -91,6 +91,7 @@ module _ {sheet : List ℕ} {run : Run} {room : ℕ} where
   stand_11 y (opening (bad_sheet a)) = (refl, a)
 
   stand_12 : (y : Refusal) → StandRow sheet run room 12 y → (BadRun ≡ y) × (((head_in sheet).states ≤ run.state.0) ⊎ (room < run.held))
+  stand_12 y (opening r) = elim r [ ]
   stand_12 y (state_past a) = (refl, inl a)
   stand_12 y (held_past a) = (refl, inr a)
 
@@ -188,9 +189,11 @@ module _ (sheet : List ℕ) (run : Run) (e : EventNo) (memory output : List ℕ)
 
   by_11 : (y : Refusal) → T 11 y → (NoSheet ≡ y) × BadSheet sheet
   by_11 y (standing r) = stand_11 y r
+  by_11 y (reading _ r) = elim r [ ]
 
   by_12 : (y : Refusal) → T 12 y → (BadRun ≡ y) × ((N ≤ run.state.0) ⊎ (length memory < run.held))
   by_12 y (standing r) = stand_12 y r
+  by_12 y (reading _ r) = elim r [ ]
 
   by_14 : (y : Refusal) → T 14 y → (Cell run.state e ≡ y) × ((e.0 < K) × ((cell / 64 ≡ 3) ⊎ (N ≤ cell % 64)))
   by_14 y (standing r) = past_stand r refl
