@@ -13,7 +13,6 @@ use Rattle.rule.specs.declared.Rule.{Rule}
 use Rattle.rule.specs.declared.Verdict.{Verdict}
 use Rattle.rule.specs.declared.Verdict.TheVariants.{Sound}
 use Rattle.rule.proofs.RefusalLaws.{first_append, else_sound}
-use Rattle.trailer.specs.Conditions.{class, range}
 use Rattle.trailer.proofs.SoundLaws.{classed_says, ranged_says, cells_in}
 use Rattle.rulefile.specs.Layout.{drawing_in}
 use Rattle.rulefile.specs.Writing.{measure_conditions, verdict_of, Held}
