@@ -1,0 +1,7 @@
+-- `met` meets its contract. Assumes nothing.
+use Rattle.why.proofs.PickLaws.{met_is}
+use borrow.Author.Rules.{rules}
+use Rattle.why.proofs.grounds.met.Goals as goal
+
+pub returns : goal.returns
+returns c = search (rules, met_is)

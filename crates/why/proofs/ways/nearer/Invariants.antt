@@ -1,0 +1,16 @@
+-- `nearer` meets its contract: one state at a time, in the set and in the array of steps.
+-- Assumes nothing.
+use mathlib.Core.Path.{◌≡◌}
+use Prim.Native.Nat.{◌≤◌, ◌-◌}
+use lib.ListN.{length}
+use Rattle.rule.specs.Reach.{target}
+use Rattle.rule.specs.Ways.{nearer_below}
+use Rattle.why.specs.Steps.{steps_below}
+use Rattle.why.proofs.ways.nearer.Given as goal
+
+abbrev pub invariant-loop-s : goal.invariant-loop-s
+invariant-loop-s l = (l.s ≤ l.states) × (length l.steps ≡ length l.initial.steps)
+    × (l.out ≡ nearer_below (target l.table l.events) l.events l.set l.s) × (l.steps ≡ steps_below (target l.table l.events) l.events l.set l.initial.steps l.s)
+
+abbrev pub decreases-loop-s : goal.decreases-loop-s
+decreases-loop-s l = l.states - l.s

@@ -1,0 +1,11 @@
+-- `put` meets its contract: the rounds go on until t is found, and then the steps are followed from it.
+-- Assumes nothing.
+use Prim.Native.Nat.{◌≤◌, ◌-◌}
+use Rattle.why.proofs.SoughtLaws.{Sought}
+use Rattle.why.proofs.ways.put.Given as goal
+
+abbrev pub invariant-loop-rows : goal.invariant-loop-rows
+invariant-loop-rows l = (l.moves ≤ l.states) × Sought l.table l.states l.events l.goal l.t.0 l.steps l.near l.moves
+
+abbrev pub decreases-loop-rows : goal.decreases-loop-rows
+decreases-loop-rows l = l.states - l.moves
