@@ -244,7 +244,7 @@ module _ (m : Machine) where
           halts_at_each = λ before rest x p hopeless.
               let right = right_here before rest x p in
               right_at m.initial before rest x right
-              ∙ S.never_Halts _ (right_valid L m.initial before rest x L.initial_in right)
+              ∙ S.never_halts _ (right_valid L m.initial before rest x L.initial_in right)
               (λ v w a. hopeless v w (accepts_more (codes before) v x.code ∙ a));
         }
 
