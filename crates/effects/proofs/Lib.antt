@@ -1,4 +1,4 @@
--- what a dump comes to
+-- what each return of the code comes to
 pub mod EffectLaws
 -- what a turn leaves, and a refusal keeps
 pub mod KeptLaws
