@@ -7,9 +7,8 @@ use borrow.Author.Tests.{not-true, not-false}
 use mathlib.Core.Bool.{Bool, true, false, not}
 use mathlib.Core.List.{List}
 use lib.ListN.{length}
-use denote.Ref.{Bor, MutBor}
-use base.Fml.{GName}
-use borrow.Rule.Slice.PartAt.{sl_part}
+use denote.Ref.{Bor}
+use borrow.Rule.Slice.PartAt.{sl_partˢ}
 use borrow.Rule.Slice.Shared.{by_byte}
 use Rattle.rule.specs.declared.Refusal.{Refusal}
 use Rattle.rule.specs.declared.Refusal.TheVariants.{Book, Missing}
@@ -136,18 +135,18 @@ part_bytes job office number age part p = by (lookup_of job.now office.now numbe
     by (Office start size) q = q.bytes
     by (Refused x) q = q.bytes
 
--- the returns of `find`: the part that was lent, under a new name
-module _ (job office : MutBor (List ℕ)) (number age : ℕ) {found : Lookup} (is : found ≡ lookup_of job.now office.now number age) (name : GName) where
-  part_of : (whole : MutBor (List ℕ)) (start size : ℕ) → PartOf whole start size (sl_part whole (by_byte start whole.ref_ptr.1) start (start + size) name)
+-- the returns of `find`: the part that was lent
+module _ (job office : Bor (List ℕ)) (number age : ℕ) {found : Lookup} (is : found ≡ lookup_of job.now office.now number age) where
+  part_of : (whole : Bor (List ℕ)) (start size : ℕ) → PartOf whole start size (sl_partˢ whole (by_byte start whole.ref_ptr.1) start (start + size))
   part_of whole start size = let z : start + size - start ≡ size = omega arith in record { bytes = rw z; block = refl; place = omega arith }
 
   pub job_part : {start size : ℕ} → found ≡ Job start size
-      → FindPromise job office number age (sl_part job (by_byte start job.ref_ptr.1) start (start + size) name)
+      → FindPromise job office number age (sl_partˢ job (by_byte start job.ref_ptr.1) start (start + size))
   job_part {start} {size} e = rw (sym is ∙ e) (part_of job start size)
 
   pub office_part : {start size : ℕ} → found ≡ Office start size
-      → FindPromise job office number age (sl_part office (by_byte start office.ref_ptr.1) start (start + size) name)
+      → FindPromise job office number age (sl_partˢ office (by_byte start office.ref_ptr.1) start (start + size))
   office_part {start} {size} e = rw (sym is ∙ e) (part_of office start size)
 
-  pub no_part : {r : Refusal} → found ≡ Refused r → FindPromise job office number age (sl_part job (by_byte 0 job.ref_ptr.1) 0 0 name)
+  pub no_part : {r : Refusal} → found ≡ Refused r → FindPromise job office number age (sl_partˢ job (by_byte 0 job.ref_ptr.1) 0 0)
   no_part e = rw (sym is ∙ e) (part_of job 0 0)

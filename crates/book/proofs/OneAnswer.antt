@@ -15,7 +15,7 @@ use Rattle.book.proofs
 pub look_one_answer : OneAnswer contracts.look.ended proofs.look.Reads.Learnt
 look_one_answer κs a x y = (x.told ∙ sym y.told, refl)
 
--- a part's place and bytes; a reference also has a ghost name, which is the proof's alone
+-- a part's place and bytes, which are all that a reference is
 pub find_one_answer : (κs : Lfts (contracts.find.ended).signature.lifetimes) (a : Args (contracts.find.ended).signature κs)
     (x y : Call contracts.find.ended proofs.find.Reads.Learnt κs a) → (x.result.ref_ptr ≡ y.result.ref_ptr) × (x.result.now ≡ y.result.now)
 find_one_answer κs a x y = by (lookup_of a.0.now a.1.0.now a.1.1.0 a.1.1.1.0) x.told y.told
