@@ -1,0 +1,10 @@
+-- `printed::lines::put_cell` meets its contract.
+-- Assumes nothing.
+use borrow.Author.Rules.{rules}
+use Rattle.printed.proofs.LineLaws.{cell_put}
+use Rattle.printed.proofs.lines.put_cell.Goals as goal
+
+ruleset steps = (rules, cell_put)
+
+pub returns : goal.returns
+returns c = search steps

@@ -1,0 +1,16 @@
+-- `printed::lines::put_operation` meets its contract, in each arm.
+-- Assumes nothing.
+use borrow.Author.Rules.{rules}
+use Rattle.printed.proofs.LineLaws.{end_put}
+use Rattle.printed.proofs.lines.put_operation.Goals as goal
+
+ruleset steps = (rules, end_put)
+
+pub returns-in-Halt : goal.returns-in-Halt
+returns-in-Halt c = search steps
+
+pub returns-in-Store : goal.returns-in-Store
+returns-in-Store c = search steps
+
+pub returns-in-Dump : goal.returns-in-Dump
+returns-in-Dump c = search steps

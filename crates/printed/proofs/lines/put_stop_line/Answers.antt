@@ -1,0 +1,13 @@
+-- `printed::lines::put_stop_line` meets its contract: where no state was put, the line has `-`.
+-- Assumes nothing.
+use borrow.Author.Rules.{rules}
+use Rattle.printed.proofs.StopLaws.{none_put, some_put}
+use Rattle.printed.proofs.lines.put_stop_line.Goals as goal
+
+ruleset steps = (rules, none_put, some_put)
+
+pub returns-then-stops-words : goal.returns-then-stops-words
+returns-then-stops-words c = search steps
+
+pub returns : goal.returns
+returns c = search steps
