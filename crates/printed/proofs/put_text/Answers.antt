@@ -4,10 +4,8 @@ use borrow.Author.Rules.{rules}
 use Rattle.printed.proofs.PrintLaws.{refused_put, sound_put}
 use Rattle.printed.proofs.put_text.Goals as goal
 
-ruleset steps = (rules, refused_put, sound_put)
-
 pub returns-in-Refused : goal.returns-in-Refused
-returns-in-Refused c = search steps
+returns-in-Refused c = search (rules, refused_put)
 
 pub returns : goal.returns
-returns c = search steps
+returns c = search (rules, sound_put)

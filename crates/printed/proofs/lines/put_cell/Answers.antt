@@ -4,7 +4,5 @@ use borrow.Author.Rules.{rules}
 use Rattle.printed.proofs.LineLaws.{cell_put}
 use Rattle.printed.proofs.lines.put_cell.Goals as goal
 
-ruleset steps = (rules, cell_put)
-
 pub returns : goal.returns
-returns c = search steps
+returns c = search (rules, cell_put)

@@ -12,9 +12,6 @@ ruleset steps = (rules, flat_more, flat_all, put_length)
 pub loop-s-init : goal.loop-s-init
 loop-s-init c = (omega arith, flat_none _ _ _ (omega arith) (omega arith))
 
-pub loop-s-smaller : goal.loop-s-smaller
-loop-s-smaller c = search steps
-
 pub loop-s-preserved : goal.loop-s-preserved
 loop-s-preserved c = search steps
 

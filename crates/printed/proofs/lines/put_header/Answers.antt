@@ -4,7 +4,5 @@ use borrow.Author.Rules.{rules}
 use Rattle.printed.proofs.LineLaws.{header_put}
 use Rattle.printed.proofs.lines.put_header.Goals as goal
 
-ruleset steps = (rules, header_put)
-
 pub returns : goal.returns
-returns c = search steps
+returns c = search (rules, header_put)

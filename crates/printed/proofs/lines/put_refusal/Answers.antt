@@ -4,7 +4,5 @@ use borrow.Author.Rules.{rules}
 use Rattle.printed.proofs.LineLaws.{refusal_put}
 use Rattle.printed.proofs.lines.put_refusal.Goals as goal
 
-ruleset steps = (rules, refusal_put)
-
 pub returns : goal.returns
-returns c = search steps
+returns c = search (rules, refusal_put)

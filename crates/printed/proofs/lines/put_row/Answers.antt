@@ -12,9 +12,6 @@ ruleset steps = (rules, flat_more, flat_all, put_length)
 pub loop-e-init : goal.loop-e-init
 loop-e-init c = (omega arith, flat_none _ _ _ (omega arith) (omega arith))
 
-pub loop-e-smaller : goal.loop-e-smaller
-loop-e-smaller c = search steps
-
 pub loop-e-preserved : goal.loop-e-preserved
 loop-e-preserved c = search steps
 

@@ -6,10 +6,8 @@ use borrow.Author.Rules.{rules}
 use Rattle.printed.proofs.StopLaws.{stop_put, stop_not}
 use Rattle.printed.proofs.lines.put_stop.Goals as goal
 
-ruleset steps = (rules, stop_put)
-
 pub returns-in-Halt : goal.returns-in-Halt
-returns-in-Halt c = search steps
+returns-in-Halt c = search (rules, stop_put)
 
 pub returns-in-Store : goal.returns-in-Store
 returns-in-Store c = stop_not _ _ c.at.ensures c.in-Store.is refl (omega arith) (omega arith)

@@ -4,10 +4,8 @@ use borrow.Author.Rules.{rules}
 use Rattle.printed.proofs.StopLaws.{none_put, some_put}
 use Rattle.printed.proofs.lines.put_stop_line.Goals as goal
 
-ruleset steps = (rules, none_put, some_put)
-
 pub returns-then-stops-words : goal.returns-then-stops-words
-returns-then-stops-words c = search steps
+returns-then-stops-words c = search (rules, none_put)
 
 pub returns : goal.returns
-returns c = search steps
+returns c = search (rules, some_put)

@@ -11,9 +11,6 @@ ruleset steps = (rules, flat_more, flat_all, put_length)
 pub loop-q-init : goal.loop-q-init
 loop-q-init c = (omega arith, flat_none _ _ _ (omega arith) (omega arith))
 
-pub loop-q-smaller : goal.loop-q-smaller
-loop-q-smaller c = search steps
-
 pub loop-q-preserved : goal.loop-q-preserved
 loop-q-preserved c = search steps
 

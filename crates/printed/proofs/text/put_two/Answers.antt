@@ -4,7 +4,5 @@ use borrow.Author.Rules.{rules}
 use Rattle.printed.proofs.LineLaws.{two_put}
 use Rattle.printed.proofs.text.put_two.Goals as goal
 
-ruleset steps = (rules, two_put)
-
 pub returns : goal.returns
-returns c = search steps
+returns c = search (rules, two_put)
