@@ -4,7 +4,7 @@ use Prim.Native.Nat.{ℕ, ◌-◌, ◌≤◌, ◌<◌}
 use mathlib.Core.Path.{◌≡◌, sym, ◌∙◌}
 use mathlib.Core.List.{List}
 use lib.ListN.{length, get_or, take, drop}
-use Rattle.rule.specs.Drawing.{states, body}
+use Rattle.rule.specs.Drawing.{body}
 use Rattle.rule.specs.Operations.{reach_of, operation_pairs, operation_joint, operation_at}
 use Rattle.rule.specs.Acceptance.{good_of}
 use Rattle.rule.specs.declared.Refusal.{Refusal}

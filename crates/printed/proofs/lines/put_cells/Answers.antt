@@ -1,0 +1,20 @@
+-- `printed::lines::put_cells` meets its contract: the loop puts row after row.
+-- Assumes nothing.
+use native.Mathlib.Omega.{arith}
+use borrow.Author.Rules.{rules}
+use Rattle.printed.specs.Printing.{cell_lines}
+use Rattle.printed.proofs.LoopLaws.{flat_none, flat_more, flat_all}
+use Rattle.printed.proofs.PlacingLaws.{put_length}
+use Rattle.printed.proofs.lines.put_cells.Goals as goal
+
+ruleset steps = (rules, flat_more, flat_all, put_length)
+
+pub loop-s-init : goal.loop-s-init
+loop-s-init c = (omega arith, flat_none _ _ _ (omega arith) (omega arith))
+
+pub loop-s-preserved : goal.loop-s-preserved
+loop-s-preserved c = search steps
+
+pub returns : goal.returns
+unfolding cell_lines
+returns c = search steps
