@@ -1,4 +1,5 @@
-// What C calls: numbers and byte slices. Each call is one of the house's, and its answer is told in numbers; include/pachallu.h declares them.
+// What C calls: numbers and byte slices. Each call is one of the house's, and its answer is told in numbers; the crate pachallu_c exports them to C, and
+// include/pachallu.h declares them.
 #![tactic(auto)]
 
 ghost use Rattle.std.specs.Prelude.{◌≡◌};
@@ -110,24 +111,21 @@ fn made_of(written: Written) -> Made
 }
 
 // Makes the sheet of a rule file at the front of `sheet`: the refusals 1 to 9, then 16.
-#[unsafe(no_mangle)]
-pub extern "C" fn pachallu_make(rule: &[u8], sheet: &mut [u8]) -> Made
+pub fn pachallu_make(rule: &[u8], sheet: &mut [u8]) -> Made
     ensures { MakeForC rule.now sheet.old result sheet.new }
 {
     made_of(making::make(rule, sheet))
 }
 
 // Prints the monitor of a rule file, or its refusal, at the front of `text`: refusal 16 where it does not fit.
-#[unsafe(no_mangle)]
-pub extern "C" fn pachallu_print(rule: &[u8], text: &mut [u8]) -> Made
+pub fn pachallu_print(rule: &[u8], text: &mut [u8]) -> Made
     ensures { PrintForC rule.now text.old result text.new }
 {
     made_of(printed::print(rule, text))
 }
 
 // Starts a run: refusal 11, and then state 0 with nothing held.
-#[unsafe(no_mangle)]
-pub extern "C" fn pachallu_fresh(sheet: &[u8]) -> Started
+pub fn pachallu_fresh(sheet: &[u8]) -> Started
     ensures { FreshForC sheet.now result }
 {
     let start = monitor::fresh(sheet);
@@ -156,8 +154,7 @@ pub extern "C" fn pachallu_fresh(sheet: &[u8]) -> Started
 }
 
 // Offers an event to a run: the refusals 11, 12 and 14 to 16. What was released stands at the front of `output`.
-#[unsafe(no_mangle)]
-pub extern "C" fn pachallu_event(
+pub fn pachallu_event(
     sheet: &[u8],
     state: u8,
     held: usize,
@@ -214,8 +211,7 @@ pub extern "C" fn pachallu_event(
 }
 
 // Looks a rule up in the job's book and the office's: the refusals 17 and 18.
-#[unsafe(no_mangle)]
-pub extern "C" fn pachallu_find(job: &[u8], office: &[u8], number: u8, age: u16) -> Found
+pub fn pachallu_find(job: &[u8], office: &[u8], number: u8, age: u16) -> Found
     ensures { FindForC job.now office.now number age result }
 {
     match book::look(job, office, number, age) {
@@ -250,8 +246,7 @@ pub extern "C" fn pachallu_find(job: &[u8], office: &[u8], number: u8, age: u16)
 }
 
 // Writes a book with one rule more to the front of `out`: the refusals 17, 1 to 9, 26, then 16.
-#[unsafe(no_mangle)]
-pub extern "C" fn pachallu_add(book: &[u8], number: u8, rule: &[u8], out: &mut [u8]) -> Made
+pub fn pachallu_add(book: &[u8], number: u8, rule: &[u8], out: &mut [u8]) -> Made
     ensures { AddForC book.now number rule.now out.old result out.new }
 {
     made_of(book::add(book, number, rule, out))
@@ -272,8 +267,7 @@ fn told_of(verdict: Verdict) -> Told
 }
 
 // Offers up to 4,096 events to a run: the refusals 19, 11, 12, then 14 to 16. What was released stands at the front of `output`.
-#[unsafe(no_mangle)]
-pub extern "C" fn pachallu_events(
+pub fn pachallu_events(
     sheet: &[u8],
     state: u8,
     held: usize,
@@ -320,8 +314,7 @@ fn reason_of(operation: Operation, pair: u8, length: usize) -> Reason
 }
 
 // Tells why an event is answered as it is in a state: the refusals 1 to 9, then 12, 13 and 16. The way stands at the front of `way`.
-#[unsafe(no_mangle)]
-pub extern "C" fn pachallu_why(rule: &[u8], state: u8, event: u8, way: &mut [u8]) -> Reason
+pub fn pachallu_why(rule: &[u8], state: u8, event: u8, way: &mut [u8]) -> Reason
     ensures { WhyForC rule.now state event way.old result way.new }
 {
     match why::why(rule, StateNo(state), EventNo(event), way) {

@@ -5,22 +5,22 @@ use crate::script::{part, wide};
 use crate::{runs, said};
 use check::same;
 use rule::{EventNo, Pair, Rule, Shape, StateNo, Verdict, Written};
+use std::io;
 
 // Reads a rule file, and where it is sound writes its rule again. A file that is the same is not printed.
-fn read(file: &[u8]) {
+fn read(rt: &impl Print, file: &[u8]) -> io::Result<()> {
     let reading = rulefile::read(file);
     let verdict = reading.verdict;
     if let Verdict::Refused(refusal) = verdict {
-        said::refused(refusal);
-        return;
+        return said::refused(rt, refusal);
     }
     let mut out = [171u8; 3300];
-    said::written(rulefile::write(reading.rule, &mut out));
+    said::written(rt, rulefile::write(reading.rule, &mut out))?;
     if same(part(&out, 0, file.len()), file) {
-        said::say(b" same");
-        said::bytes(part(&out, file.len(), 3300));
+        said::say(rt, b" same")?;
+        said::bytes(rt, part(&out, file.len(), 3300))
     } else {
-        said::bytes(&out);
+        said::bytes(rt, &out)
     }
 }
 
@@ -77,84 +77,91 @@ fn write(bytes: &[u8], out: &mut [u8]) -> Written {
 }
 
 // The calls that write to an output.
-fn put(command: u8, bytes: &[u8], out: &mut [u8]) -> bool {
+fn put(rt: &impl Print, command: u8, bytes: &[u8], out: &mut [u8]) -> io::Result<bool> {
     if command == b'w' {
         let answer = write(bytes, out);
-        said::put(answer, out);
-        return true;
+        said::put(rt, answer, out)?;
+        return Ok(true);
     }
     if command == b'm' {
         let answer = making::make(bytes, out);
-        said::put(answer, out);
-        return true;
+        said::put(rt, answer, out)?;
+        return Ok(true);
     }
-    false
+    Ok(false)
 }
 
 // Adds a rule file to a book.
-fn add(book: &[u8], number: u8, rule: &[u8], out: &mut [u8]) {
+fn add(rt: &impl Print, book: &[u8], number: u8, rule: &[u8], out: &mut [u8]) -> io::Result<()> {
     let answer = book::add(book, number, rule, out);
-    said::put(answer, out);
+    said::put(rt, answer, out)
 }
 
 // The calls on a book and what stands behind it from a place on: looks up in it and in the office's book, adds a rule file to it.
-fn books(command: u8, first: u8, second: u8, place: u8, bytes: &[u8]) -> bool {
+fn books(
+    rt: &impl Print,
+    command: u8,
+    first: u8,
+    second: u8,
+    place: u8,
+    bytes: &[u8],
+) -> io::Result<bool> {
     let split = wide(place);
     if bytes.len() < split {
-        return false;
+        return Ok(false);
     }
     let book = part(bytes, 0, split);
     let rest = part(bytes, split, bytes.len());
     if command == b'f' {
-        said::lookup(book::look(book, rest, first, second as u16));
-        said::bytes(book::find(book, rest, first, second as u16));
-        return true;
+        said::lookup(rt, book::look(book, rest, first, second as u16))?;
+        said::bytes(rt, book::find(book, rest, first, second as u16))?;
+        return Ok(true);
     }
     if command == b'a' {
         let mut whole = [171u8; 255];
         let out: &mut [u8] = &mut whole;
         let room = wide(first);
-        add(book, second, rest, &mut out[0..room]);
-        return true;
+        add(rt, book, second, rest, &mut out[0..room])?;
+        return Ok(true);
     }
-    false
+    Ok(false)
 }
 
 // Asks why an event is answered as it is in a state.
-fn ask(file: &[u8], state: u8, event: u8, out: &mut [u8]) {
-    said::ground(why::why(file, StateNo(state), EventNo(event), out));
-    said::bytes(out);
+fn ask(rt: &impl Print, file: &[u8], state: u8, event: u8, out: &mut [u8]) -> io::Result<()> {
+    said::ground(rt, why::why(file, StateNo(state), EventNo(event), out))?;
+    said::bytes(rt, out)
 }
 
 // A command by its letter. Answers whether there is one with so many numbers.
-pub(crate) fn call(command: u8, numbers: &[u8], bytes: &[u8]) -> bool {
+pub(crate) fn call(rt: &impl Print, command: u8, numbers: &[u8], bytes: &[u8]) -> io::Result<bool> {
     match command {
-        b'e' | b'v' | b'l' => return runs::event(command, bytes, numbers),
+        b'e' | b'v' | b'l' => return runs::event(rt, command, bytes, numbers),
         _ => {}
     }
     if numbers.len() == 1 {
         let mut whole = [171u8; 255];
         let out: &mut [u8] = &mut whole;
         let room = wide(numbers[0]);
-        return put(command, bytes, &mut out[0..room]);
+        return put(rt, command, bytes, &mut out[0..room]);
     }
     if numbers.len() == 3 {
         if command == b'y' {
             let mut whole = [171u8; 255];
             let out: &mut [u8] = &mut whole;
             let room = wide(numbers[0]);
-            ask(bytes, numbers[1], numbers[2], &mut out[0..room]);
-            return true;
+            ask(rt, bytes, numbers[1], numbers[2], &mut out[0..room])?;
+            return Ok(true);
         }
-        return books(command, numbers[0], numbers[1], numbers[2], bytes);
+        return books(rt, command, numbers[0], numbers[1], numbers[2], bytes);
     }
     if numbers.len() != 0 {
-        return false;
+        return Ok(false);
     }
     match command {
-        b'r' => read(bytes),
-        b's' => runs::start(bytes),
-        _ => return false,
+        b'r' => read(rt, bytes)?,
+        b's' => runs::start(rt, bytes)?,
+        _ => return Ok(false),
     }
-    true
+    Ok(true)
 }

@@ -3,102 +3,138 @@ use crate::said;
 use crate::script::{part, wide};
 use effects::{Answer, Run};
 use rule::{EventNo, StateNo, Verdict};
+use std::io;
 
-pub(crate) fn start(sheet: &[u8]) {
+pub(crate) fn start(rt: &impl Print, sheet: &[u8]) -> io::Result<()> {
     let start = monitor::fresh(sheet);
     let verdict = start.verdict;
     match verdict {
-        Verdict::Sound => said::say(b" sound"),
-        Verdict::Refused(refusal) => said::refused(refusal),
+        Verdict::Sound => said::say(rt, b" sound")?,
+        Verdict::Refused(refusal) => said::refused(rt, refusal)?,
     }
-    said::run(start.run);
+    said::run(rt, start.run)
 }
 
 // One event. Answers the run state after it.
-fn offer(sheet: &[u8], run: Run, code: u8, memory: &mut [u8], output: &mut [u8]) -> Run {
+fn offer(
+    rt: &impl Print,
+    sheet: &[u8],
+    run: Run,
+    code: u8,
+    memory: &mut [u8],
+    output: &mut [u8],
+) -> io::Result<Run> {
     match monitor::event(sheet, run, EventNo(code), memory, output) {
         Answer::Taken {
             operation,
             run: after,
             released,
         } => {
-            said::operation(operation);
-            said::run(after);
-            said::say(b" released");
-            said::number(released as u64);
-            after
+            said::operation(rt, operation)?;
+            said::run(rt, after)?;
+            said::say(rt, b" released")?;
+            said::number(rt, released as u64)?;
+            Ok(after)
         }
         Answer::Ignored => {
-            said::say(b" ignored");
-            run
+            said::say(rt, b" ignored")?;
+            Ok(run)
         }
         Answer::Refused(refusal) => {
-            said::refused(refusal);
-            run
+            said::refused(rt, refusal)?;
+            Ok(run)
         }
     }
 }
 
 // Events one after another, each with the output after it, and then the memory.
-fn follow(sheet: &[u8], start: Run, codes: &[u8], memory: &mut [u8], output: &mut [u8]) {
+fn follow(
+    rt: &impl Print,
+    sheet: &[u8],
+    start: Run,
+    codes: &[u8],
+    memory: &mut [u8],
+    output: &mut [u8],
+) -> io::Result<()> {
     let mut run = start;
     let mut i = 0;
     while i < codes.len() {
-        run = offer(sheet, run, codes[i], memory, output);
-        said::output(output);
+        run = offer(rt, sheet, run, codes[i], memory, output)?;
+        said::output(rt, output)?;
         i += 1;
     }
-    said::memory(memory);
+    said::memory(rt, memory)
 }
 
 // Events in one call.
-fn evening(sheet: &[u8], start: Run, codes: &[u8], memory: &mut [u8], output: &mut [u8]) {
+fn evening(
+    rt: &impl Print,
+    sheet: &[u8],
+    start: Run,
+    codes: &[u8],
+    memory: &mut [u8],
+    output: &mut [u8],
+) -> io::Result<()> {
     let evening = monitor::events(sheet, start, codes, memory, output);
     let verdict = evening.verdict;
     match verdict {
-        Verdict::Sound => said::say(b" sound"),
-        Verdict::Refused(refusal) => said::refused(refusal),
+        Verdict::Sound => said::say(rt, b" sound")?,
+        Verdict::Refused(refusal) => said::refused(rt, refusal)?,
     }
-    said::run(evening.run);
-    said::say(b" taken");
-    said::number(evening.taken as u64);
-    said::say(b" released");
-    said::number(evening.released as u64);
-    said::say(b" ignored");
-    said::number(evening.ignored as u64);
-    said::output(output);
-    said::memory(memory);
+    said::run(rt, evening.run)?;
+    said::say(rt, b" taken")?;
+    said::number(rt, evening.taken as u64)?;
+    said::say(rt, b" released")?;
+    said::number(rt, evening.released as u64)?;
+    said::say(rt, b" ignored")?;
+    said::number(rt, evening.ignored as u64)?;
+    said::output(rt, output)?;
+    said::memory(rt, memory)
 }
 
 // The same with 4,000 events and as many more as the first number says, all of the code that is the second.
-fn long_evening(sheet: &[u8], start: Run, numbers: &[u8], memory: &mut [u8], output: &mut [u8]) {
+fn long_evening(
+    rt: &impl Print,
+    sheet: &[u8],
+    start: Run,
+    numbers: &[u8],
+    memory: &mut [u8],
+    output: &mut [u8],
+) -> io::Result<()> {
     if 1 < numbers.len() {
         let log = [numbers[1]; 4255];
         let count = 4000 + wide(numbers[0]);
-        evening(sheet, start, part(&log, 0, count), memory, output);
+        evening(rt, sheet, start, part(&log, 0, count), memory, output)?;
     }
+    Ok(())
 }
 
 // The events by the letter of a command.
 fn offered(
+    rt: &impl Print,
     command: u8,
     sheet: &[u8],
     start: Run,
     codes: &[u8],
     memory: &mut [u8],
     output: &mut [u8],
-) {
+) -> io::Result<()> {
     match command {
-        b'e' => follow(sheet, start, codes, memory, output),
-        b'v' => evening(sheet, start, codes, memory, output),
-        _ => long_evening(sheet, start, codes, memory, output),
+        b'e' => follow(rt, sheet, start, codes, memory, output),
+        b'v' => evening(rt, sheet, start, codes, memory, output),
+        _ => long_evening(rt, sheet, start, codes, memory, output),
     }
 }
 
 // Events with buffers of 171s: the lengths of the memory and of the output, the state, how many are held, the codes.
-pub(crate) fn event(command: u8, sheet: &[u8], numbers: &[u8]) -> bool {
+pub(crate) fn event(
+    rt: &impl Print,
+    command: u8,
+    sheet: &[u8],
+    numbers: &[u8],
+) -> io::Result<bool> {
     if numbers.len() < 4 {
-        return false;
+        return Ok(false);
     }
     let mut memory = [171u8; 255];
     let mut output = [171u8; 255];
@@ -111,12 +147,13 @@ pub(crate) fn event(command: u8, sheet: &[u8], numbers: &[u8]) -> bool {
         held: wide(numbers[3]),
     };
     offered(
+        rt,
         command,
         sheet,
         run,
         &numbers[4..],
         &mut held[0..most],
         &mut released[0..room],
-    );
-    true
+    )?;
+    Ok(true)
 }

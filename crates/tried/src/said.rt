@@ -5,29 +5,30 @@ use crate::script::wide;
 use book::Lookup;
 use effects::Run;
 use rule::{Operation, Refusal, Written};
+use std::io;
 use why::Ground;
 
-pub(crate) fn say(word: &[u8]) {
-    io::write_all(1, word);
+pub(crate) fn say(rt: &impl Print, word: &[u8]) -> io::Result<()> {
+    rt.write_all(word)
 }
 
-pub(crate) fn operation(operation: Operation) {
+pub(crate) fn operation(rt: &impl Print, operation: Operation) -> io::Result<()> {
     match operation {
-        Operation::Halt => say(b" halt"),
-        Operation::Store => say(b" store"),
-        Operation::Dump => say(b" dump"),
+        Operation::Halt => say(rt, b" halt"),
+        Operation::Store => say(rt, b" store"),
+        Operation::Dump => say(rt, b" dump"),
     }
 }
 
-pub(crate) fn unclear(line: u64) {
-    say(b"line ");
-    io::print_decimal(1, line);
-    say(b": not a command\n");
+pub(crate) fn unclear(rt: &impl Print, line: u64) -> io::Result<()> {
+    say(rt, b"line ")?;
+    rt.print(line)?;
+    say(rt, b": not a command\n")
 }
 
-pub(crate) fn number(n: u64) {
-    say(b" ");
-    io::print_decimal(1, n);
+pub(crate) fn number(rt: &impl Print, n: u64) -> io::Result<()> {
+    say(rt, b" ")?;
+    rt.print(n)
 }
 
 // The place from which on every byte is 171.
@@ -41,99 +42,101 @@ fn touched(list: &[u8]) -> usize
     end
 }
 
-fn numbers(list: &[u8]) {
+fn numbers(rt: &impl Print, list: &[u8]) -> io::Result<()> {
     let mut i = 0;
     while i < list.len() {
-        number(wide(list[i]) as u64);
+        number(rt, wide(list[i]) as u64)?;
         i += 1;
     }
+    Ok(())
 }
 
 // Some bytes. Those that are 171 at the end are counted.
-pub(crate) fn bytes(list: &[u8]) {
+pub(crate) fn bytes(rt: &impl Print, list: &[u8]) -> io::Result<()> {
     let end = touched(list);
-    numbers(&list[0..end]);
+    numbers(rt, &list[0..end])?;
     if end < list.len() {
-        say(b" 171x");
-        io::print_decimal(1, (list.len() - end) as u64);
+        say(rt, b" 171x")?;
+        rt.print((list.len() - end) as u64)?;
     }
     if list.len() == 0 {
-        say(b" none");
+        say(rt, b" none")?;
     }
+    Ok(())
 }
 
 // A refusal, by its number and places.
-pub(crate) fn refused(refusal: Refusal) {
+pub(crate) fn refused(rt: &impl Print, refusal: Refusal) -> io::Result<()> {
     let told = refusal.told();
-    say(b" refused");
-    number(told.number as u64);
-    number(told.a as u64);
-    number(told.b as u64);
+    say(rt, b" refused")?;
+    number(rt, told.number as u64)?;
+    number(rt, told.a as u64)?;
+    number(rt, told.b as u64)
 }
 
-fn place(book: &[u8], start: usize, size: usize) {
-    say(book);
-    number(start as u64);
-    number(size as u64);
+fn place(rt: &impl Print, book: &[u8], start: usize, size: usize) -> io::Result<()> {
+    say(rt, book)?;
+    number(rt, start as u64)?;
+    number(rt, size as u64)
 }
 
 // Where a rule was found.
-pub(crate) fn lookup(found: Lookup) {
+pub(crate) fn lookup(rt: &impl Print, found: Lookup) -> io::Result<()> {
     match found {
-        Lookup::Job(start, size) => place(b" job", start, size),
-        Lookup::Office(start, size) => place(b" office", start, size),
-        Lookup::Refused(refusal) => refused(refusal),
+        Lookup::Job(start, size) => place(rt, b" job", start, size),
+        Lookup::Office(start, size) => place(rt, b" office", start, size),
+        Lookup::Refused(refusal) => refused(rt, refusal),
     }
 }
 
 // An operation and the ground for it.
-pub(crate) fn ground(ground: Ground) {
+pub(crate) fn ground(rt: &impl Print, ground: Ground) -> io::Result<()> {
     match ground {
         Ground::Halted(pair) => {
-            say(b" halt");
-            number(wide(pair) as u64);
+            say(rt, b" halt")?;
+            number(rt, wide(pair) as u64)
         }
         Ground::Held(pair, length) => {
-            say(b" store");
-            number(wide(pair) as u64);
-            number(length as u64);
+            say(rt, b" store")?;
+            number(rt, wide(pair) as u64)?;
+            number(rt, length as u64)
         }
-        Ground::Released => say(b" dump"),
-        Ground::Refused(refusal) => refused(refusal),
+        Ground::Released => say(rt, b" dump"),
+        Ground::Refused(refusal) => refused(rt, refusal),
     }
 }
 
 // What came of writing.
-pub(crate) fn written(answer: Written) {
+pub(crate) fn written(rt: &impl Print, answer: Written) -> io::Result<()> {
     match answer {
         Written::Done(n) => {
-            say(b" written");
-            number(n as u64);
+            say(rt, b" written")?;
+            number(rt, n as u64)
         }
-        Written::Refused(refusal) => refused(refusal),
+        Written::Refused(refusal) => refused(rt, refusal),
     }
 }
 
-pub(crate) fn run(run: Run) {
+pub(crate) fn run(rt: &impl Print, run: Run) -> io::Result<()> {
     let state = run.state;
-    say(b" state");
-    number(state.0 as u64);
-    say(b" held");
-    number(run.held as u64);
+    say(rt, b" state")?;
+    number(rt, state.0 as u64)?;
+    say(rt, b" held")?;
+    number(rt, run.held as u64)
 }
 
 // What came of a call that writes to an output, and the output.
-pub(crate) fn put(answer: Written, out: &[u8]) {
-    written(answer);
-    bytes(out);
+pub(crate) fn put(rt: &impl Print, answer: Written, out: &[u8]) -> io::Result<()> {
+    written(rt, answer)?;
+    bytes(rt, out)
 }
 
-pub(crate) fn output(list: &[u8]) {
-    say(b" output");
-    bytes(list);
+pub(crate) fn output(rt: &impl Print, list: &[u8]) -> io::Result<()> {
+    say(rt, b" output")?;
+    bytes(rt, list)
 }
 
-pub(crate) fn memory(list: &[u8]) {
-    say(b" memory");
-    bytes(list);
+pub(crate) fn memory(rt: &impl Print, list: &[u8]) -> io::Result<()> {
+    say(rt, b" memory")?;
+    bytes(rt, list)
 }
