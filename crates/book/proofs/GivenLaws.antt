@@ -167,7 +167,8 @@ module _ (job office : List ℕ) (number age : ℕ) where
   decides_17 : Decides rows 17 (books_verdict job office)
   decides_17 x = (by (well_formed job) (well_formed office) refl refl, from)
     where
-      by : (s t : Bool) → well_formed job ≡ s → well_formed office ≡ t → or_else (refuse_if (not s) (Book 0)) (refuse_if (not t) (Book 1)) ≡ Unsound x → rows 17 x
+      by : (s t : Bool) → well_formed job ≡ s → well_formed office ≡ t
+          → or_else (refuse_if (not s) (Book 0)) (refuse_if (not t) (Book 1)) ≡ Unsound x → rows 17 x
       by false t p q e = let k : Book 0 ≡ x = cc in subst (λ (y : Refusal). rows 17 y) k (bad_job ((formed_fails job).0 p))
       by true false p q e =
           let k : Book 1 ≡ x = cc in

@@ -50,7 +50,8 @@ lent_eight out i h = part_length (8 * i) (8 * i + 8) out h ∙ omega arith
 
 module _ (b : List ℕ) (d grow : ℕ) where
   pub length_moved : (n : ℕ) → length (moved_of b d grow n) ≡ 8 * n
-  length_moved n = length_flat_up_to 8 (moved_at b d grow) n (λ i. length_entry (get_or b (d + 8 * i) 0) (length_at b (d + 8 * i)) (distance_at b (d + 8 * i) + grow))
+  length_moved n = length_flat_up_to 8 (moved_at b d grow) n
+      (λ i. length_entry (get_or b (d + 8 * i) 0) (length_at b (d + 8 * i)) (distance_at b (d + 8 * i) + grow))
 
   module _ (out out₀ : List ℕ) (i : ℕ) (e : out ≡ moved_of b d grow i ++ drop (8 * i) out₀) where
     pub moved_more : (last : List ℕ) {s x : ℕ} → s ≡ length_at b (d + 8 * i) → x ≡ distance_at b (d + 8 * i)

@@ -41,9 +41,10 @@ use Rattle.demands.proofs.Why.{why_demand}
 -- why the event 0 is held at the beginning, asked with room for one event
 asked : WhyPromise (file_of A) 0 0 (9 ∷ []) (Held 0 1) (1 ∷ [])
 unfolding file_of flat_up_to trailer_out digits drawing_in trailer_of up_to value_of verdict_on first_of framed classed ranged in_range placed first_below
-    first_cell entries members exceeds excess moves stopped_pairs stopped names_past is_empty has insert including meets_below meets target with_moves moved_below
-    moved_set spread reached_within reach_of stops_by moves_into moves_out forbids forbids_some operation_at operation_pairs smallest_of paper.value_of meets_pair
-    least event_into nearer_below within distance way_by way_into lost_among unmet_among wanted_pair goal_set way_for way_told why_verdict
+    first_cell entries members exceeds excess moves stopped_pairs stopped names_past is_empty has insert including meets_below meets target with_moves
+    moved_below moved_set spread reached_within reach_of stops_by moves_into moves_out forbids forbids_some operation_at operation_pairs smallest_of
+    paper.value_of meets_pair least event_into nearer_below within distance way_by way_into lost_among unmet_among wanted_pair goal_set way_for way_told
+    why_verdict
 asked = record { written = Done 1; put = record { answer = refl; output = refl }; answer = refl }
 
 -- the sheet of its file, and where a run of both events stands on it
@@ -55,17 +56,19 @@ stand = all sheet (begin sheet) (0 ∷ 1 ∷ [])
 
 -- the way works there
 pub a_way_works : WayWorks (drawing_in (file_of A)) 0 stand.log stand.released stand.run
-unfolding file_of flat_up_to trailer_out digits drawing_in trailer_of up_to value_of in_range has insert including meets_below meets target with_moves moved_below
-    moved_set spread reached_within reach_of operation_at operation_pairs smallest_of paper.value_of sheet_of opens opened_of cell_turn look_of all one
+unfolding file_of flat_up_to trailer_out digits drawing_in trailer_of up_to value_of in_range has insert including meets_below meets target with_moves
+    moved_below moved_set spread reached_within reach_of operation_at operation_pairs smallest_of paper.value_of sheet_of opens opened_of cell_turn look_of
+    all one
 a_way_works =
     let made = sound_made (file_of A) (ap (λ l. get_or l 0 (Refused Room)) none_refused) in
-    why_demand.works (file_of A) sheet made (begins made eight) 0 (9 ∷ []) 0 1 (1 ∷ []) asked (all_history sheet (begin sheet) (0 ∷ 1 ∷ []) (begins made eight)) refl
+    why_demand.works (file_of A) sheet made (begins made eight) 0 (9 ∷ []) 0 1 (1 ∷ []) asked
+    (all_history sheet (begin sheet) (0 ∷ 1 ∷ []) (begins made eight)) refl
 
 -- and with room its events are taken in one call
 pub a_way_taken : let evening = evening_one sheet (start_of sheet).run (0 ∷ 1 ∷ []) eight eight in
     WayTaken (drawing_in (file_of A)) 0 (start_of sheet).run (0 ∷ 1 ∷ []) eight evening.answer evening.output
-unfolding file_of flat_up_to trailer_out digits drawing_in trailer_of up_to value_of in_range has insert including meets_below meets target with_moves moved_below
-    moved_set spread reached_within reach_of operation_at operation_pairs smallest_of paper.value_of sheet_of opens opened_of
+unfolding file_of flat_up_to trailer_out digits drawing_in trailer_of up_to value_of in_range has insert including meets_below meets target with_moves
+    moved_below moved_set spread reached_within reach_of operation_at operation_pairs smallest_of paper.value_of sheet_of opens opened_of
 a_way_taken =
     let made = sound_made (file_of A) (ap (λ l. get_or l 0 (Refused Room)) none_refused) in
     why_demand.taken (file_of A) sheet made (begins made eight) 0 (9 ∷ []) 0 1 (1 ∷ []) asked eight (omega arith) (omega arith) _ _ _

@@ -141,6 +141,6 @@ module _ (f : List ℕ) (sound : verdict_on f ≡ Sound) where
 pub not_back : NotBack
 unfolding file_of flat_up_to trailer_out digits drawing_in trailer_of up_to value_of verdict_on first_of framed classed ranged in_range placed first_below
     first_cell entries members exceeds excess moves stopped_pairs stopped_joint stopped names_past is_empty has insert including those meets_below meets
-    target with_moves moved_below moved_set spread reached_within reach_of stops_by stopping_joint good_of meets_all meets_pair moves_into moves_out forbids forbids_some
-    operation_at operation_pairs operation_joint smallest_of paper.value_of
+    target with_moves moved_below moved_set spread reached_within reach_of stops_by stopping_joint good_of meets_all meets_pair moves_into moves_out
+    forbids forbids_some operation_at operation_pairs operation_joint smallest_of paper.value_of
 not_back = record { stored = refl; halted = refl; refused = refl }

@@ -39,8 +39,8 @@ read_back = refl
 -- and none of them is refused
 pub none_refused : map (λ d. verdict_on (file_of d)) (A ∷ S ∷ G ∷ O ∷ D ∷ []) ≡ Sound ∷ Sound ∷ Sound ∷ Sound ∷ Sound ∷ []
 unfolding file_of flat_up_to trailer_out digits drawing_in trailer_of up_to value_of verdict_on first_of framed classed ranged in_range placed first_below
-    first_cell entries members exceeds excess moves stopped_pairs stopped names_past is_empty has insert including meets_below meets target with_moves moved_below
-    moved_set spread reached_within reach_of stops_by moves_into moves_out forbids forbids_some
+    first_cell entries members exceeds excess moves stopped_pairs stopped names_past is_empty has insert including meets_below meets target with_moves
+    moved_below moved_set spread reached_within reach_of stops_by moves_into moves_out forbids forbids_some
 none_refused = refl
 
 -- their sheets
@@ -51,27 +51,29 @@ pub sheets : map sheet_of (A ∷ S ∷ G ∷ O ∷ D ∷ []) ≡
     ∷ (1 ∷ 2 ∷ 64 ∷ 1 ∷ 1 ∷ 1 ∷ 2 ∷ 2 ∷ 2 ∷ 3 ∷ 3 ∷ 0 ∷ 77 ∷ 15 ∷ 0 ∷ [])
     ∷ (1 ∷ 1 ∷ 2 ∷ 1 ∷ 0 ∷ 77 ∷ 8 ∷ 0 ∷ [])
     ∷ []
-unfolding sheet_of digits operation_at operation_pairs smallest_of paper.value_of reach_of has insert including meets_below meets target with_moves moved_below moved_set
-    spread reached_within
+unfolding sheet_of digits operation_at operation_pairs smallest_of paper.value_of reach_of has insert including meets_below meets target with_moves
+    moved_below moved_set spread reached_within
 sheets = refl
 
 -- the joint rule is not refused either
 pub joint_sound : verdict_on (file_of J) ≡ Sound
 unfolding file_of flat_up_to trailer_out digits drawing_in trailer_of up_to value_of verdict_on first_of framed classed ranged in_range placed first_below
     first_cell entries members exceeds excess moves stopped_pairs stopped_joint stopped names_past is_empty has insert including those meets_below meets
-    target with_moves moved_below moved_set spread reached_within reach_of stops_by stopping_joint good_of meets_all meets_pair moves_into moves_out forbids forbids_some
+    target with_moves moved_below moved_set spread reached_within reach_of stops_by stopping_joint good_of meets_all meets_pair moves_into moves_out
+    forbids forbids_some
 joint_sound = refl
 
 -- its runs
 pub the_joint : found marked_joint ≡ wanted marked_joint
-unfolding found wanted mark_of all one sheet_of digits operation_at operation_pairs operation_joint good_of meets_all meets_pair those smallest_of paper.value_of
-    reach_of has insert including meets_below meets target with_moves moved_below moved_set spread reached_within in_range opens opened_of cell_turn look_of
+unfolding found wanted mark_of all one sheet_of digits operation_at operation_pairs operation_joint good_of meets_all meets_pair those smallest_of
+    paper.value_of reach_of has insert including meets_below meets target with_moves moved_below moved_set spread reached_within in_range opens opened_of
+    cell_turn look_of
 the_joint = refl
 
 -- the twelve marked runs
 pub the_twelve : found marked ≡ wanted marked
-unfolding found wanted mark_of all one sheet_of digits operation_at operation_pairs smallest_of paper.value_of reach_of has insert including meets_below meets target
-    with_moves moved_below moved_set spread reached_within in_range opens opened_of cell_turn look_of
+unfolding found wanted mark_of all one sheet_of digits operation_at operation_pairs smallest_of paper.value_of reach_of has insert including meets_below
+    meets target with_moves moved_below moved_set spread reached_within in_range opens opened_of cell_turn look_of
 the_twelve = refl
 
 -- the fourth with codes between that are not the rule's business: the same, for they are not taken

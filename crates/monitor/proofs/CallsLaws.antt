@@ -58,7 +58,8 @@ module _ (sheet : List ℕ) where
   pub calls_of_is : (run : Run) (log memory output : List ℕ) → Calls sheet run log memory output (calls_of sheet run log memory output)
   unfolding calls_of
   calls_of_is run [] memory output = over
-  calls_of_is run (e ∷ es) memory output = calls_by run e es memory output (λ next left rest. calls_of_is next es left rest) _ _ _ (kept_by_turn run e memory output)
+  calls_of_is run (e ∷ es) memory output = calls_by run e es memory output (λ next left rest. calls_of_is next es left rest) _ _ _
+      (kept_by_turn run e memory output)
 
   -- one log and then another: where no event of the first is refused, the second gets what the first left, the unwritten rest of the output too
   abbrev Appends : Outcome → (b : List ℕ) → Outcome → Type 0

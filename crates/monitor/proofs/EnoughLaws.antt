@@ -115,7 +115,8 @@ module _ (sheet : List ℕ) where
       row = own_row (event_within sheet before.run (event_no R.event) before.memory before.rest) R.refused
 
     -- any number but 19, 11 and 12 is that of a refused event
-    event_row : (n : ℕ) (x : Refusal) → among n (19 ∷ stand_order) ≡ false → EveningRow sheet run log memory output n x → RefusedAt sheet run log memory output x
+    event_row : (n : ℕ) (x : Refusal) → among n (19 ∷ stand_order) ≡ false → EveningRow sheet run log memory output n x
+        → RefusedAt sheet run log memory output x
     event_row n x other (too_long h) = clash refl other
     event_row n x other (no_event q r) = clash ((among_says n 19 stand_order).1 (inr (stand_within sheet run (length memory) n x r).listed)) other
     event_row n x other (event_refused s R q) = R

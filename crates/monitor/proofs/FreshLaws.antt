@@ -52,7 +52,8 @@ module _ (sheet : List ℕ) where
   pub fresh_ends : Ends (FreshRow sheet) fresh_order (verdict_told (start_of sheet).verdict) ((start_of sheet).run ≡ fresh_run (state_no 0))
   fresh_ends = by (opened_of sheet) refl
     where
-      by : (o : Opened) → opened_of sheet ≡ o → Ends (FreshRow sheet) fresh_order (verdict_told (start_by o).verdict) ((start_by o).run ≡ fresh_run (state_no 0))
+      by : (o : Opened) → opened_of sheet ≡ o → Ends (FreshRow sheet) fresh_order (verdict_told (start_by o).verdict)
+          ((start_by o).run ≡ fresh_run (state_no 0))
       by (Sheet h) o = record { tells = done (none o); rest = λ n. absurd (n refl) }
       by Shut o = record { tells = refused (here (bad_sheet ((refused_when sheet).0 o))); rest = λ n. refl }
 

@@ -30,7 +30,8 @@ module _ (sheet : List ℕ) where
       )
 
   -- an evening that is not refused: short, from a run that 11 and 12 do not refuse
-  sound_short : (run : Run) (log memory output : List ℕ) → (evening_of sheet run log memory output).verdict ≡ Sound → Dec (4096 < length log) → length log ≤ 4096
+  sound_short : (run : Run) (log memory output : List ℕ) → (evening_of sheet run log memory output).verdict ≡ Sound → Dec (4096 < length log)
+      → length log ≤ 4096
   sound_short run log memory output p (yes h) = not_both p (ap (λ (y : Outcome). y.verdict) (is_long sheet run memory output log h))
   sound_short run log memory output p (no h) = omega arith
 

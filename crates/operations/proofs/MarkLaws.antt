@@ -85,7 +85,8 @@ module _ (ps : List Pair) (count i : ℕ) (last : i ≤ 0) (x : ℕ) (fits : x <
   pub good_all : Members x (meets_all (drop i (take count ps))) → x ≡ those (meets_all (take count ps)) 64
   good_all m = let e : i ≡ 0 = omega arith in those_is (meets_all (take count ps)) x fits (rw e at m)
 
-  pub halt_all : (next : ℕ → ℕ → ℕ) (n k : ℕ) → Members x (lost_by_some next n k (drop i (take count ps))) → x ≡ those (lost_by_some next n k (take count ps)) 64
+  pub halt_all : (next : ℕ → ℕ → ℕ) (n k : ℕ) → Members x (lost_by_some next n k (drop i (take count ps)))
+      → x ≡ those (lost_by_some next n k (take count ps)) 64
   halt_all next n k m = let e : i ≡ 0 = omega arith in those_is (lost_by_some next n k (take count ps)) x fits (rw e at m)
 
 -- the two sets by the mode

@@ -75,5 +75,6 @@ module _ (ps : List Pair) (count reached t : ℕ) where
   smallest_more d i least v out h z a b is at step = rw (one_more ps count i h d z a b) (cc)
 
   -- down to the first
-  pub smallest_all : (i : ℕ) (least : Operation) → i ≤ 0 → least ≡ smallest_of (drop i (take count ps)) reached t → least ≡ smallest_of (take count ps) reached t
+  pub smallest_all : (i : ℕ) (least : Operation) → i ≤ 0 → least ≡ smallest_of (drop i (take count ps)) reached t
+      → least ≡ smallest_of (take count ps) reached t
   smallest_all i least h is = let z : i ≡ 0 = omega arith in rw z at is

@@ -92,7 +92,8 @@ pub c_event_ends : {sheet : List ℕ} {state held event : ℕ} {memory output : 
 c_event_ends {sheet} {state} {held} {event} {memory} {output} {r} {memory'} {output'} p = rw p.told (by p.answer p.promise)
   where
     by : (a : Answer) → EventPromise sheet (run_of state held) (event_no event) memory output a memory' output'
-        → Ends (EventRow sheet (run_of state held) (event_no event) (length memory) (length output)) event_order (answered_told (answered_of a (run_of state held)))
+        → Ends (EventRow sheet (run_of state held) (event_no event) (length memory) (length output)) event_order
+        (answered_told (answered_of a (run_of state held)))
         (EventKept state held memory output (answered_of a (run_of state held)) memory' output')
     by (Taken o run k) q =
         record { tells = (event_ends sheet (run_of state held) (event_no event) memory output q).tells; rest = λ n. absurd (n refl) }

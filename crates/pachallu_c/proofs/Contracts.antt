@@ -1,5 +1,6 @@
--- What a caller in C learns of each export, from the contract that is proved of it, is what the demands say of the call behind it: a line for each, and the gate
--- looks that none is missing. They stand here and not with the other lines, in the crate demands, because no crate can stand on a static library.
+-- What a caller in C learns of each export, from the contract that is proved of it, is what the demands say of the call behind it: a line for each,
+-- and the gate looks that none is missing. They stand here and not with the other lines, in the crate demands, because no crate can stand on a static
+-- library.
 -- Assumes nothing.
 use Rattle.contracts.specs.Contract.{Keeps}
 use Rattle.pachallu.specs.Told.{MakeForC, PrintForC, FindForC, AddForC, FreshForC, EventForC, EveningForC, WhyForC}

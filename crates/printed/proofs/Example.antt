@@ -73,8 +73,9 @@ text_B =
     (114 ∷ 101 ∷ 102 ∷ 117 ∷ 115 ∷ 101 ∷ 100 ∷ 32 ∷ 53 ∷ 32 ∷ 49 ∷ 32 ∷ 50 ∷ 10 ∷ [])  -- refused 5 1 2
 
 examples : (text_of A ≡ text_A) × (text_of G ≡ text_G) × (text_of B ≡ text_B)
-unfolding text_of verdict_on monitor_text refusal_line header cell_lines row_lines cell_of cell_line stop_line those_below line rest decimal flat_up_to drawing_in
-    trailer_of up_to framed classed ranged in_range placed first_of first_below first_cell entries members exceeds excess moves stopped_pairs stopped moves_out forbids
-    forbids_some stops_by stops_by_some stopping_pairs stopping operations.value_of operations.smallest_of operations.reach_of operations.operation_pairs operations.operation_at reached_within spread
-    moved_set moved_below with_moves target including insert has meets meets_below is_empty names_past value_of
+unfolding text_of verdict_on monitor_text refusal_line header cell_lines row_lines cell_of cell_line stop_line those_below line rest decimal flat_up_to
+    drawing_in trailer_of up_to framed classed ranged in_range placed first_of first_below first_cell entries members exceeds excess moves stopped_pairs
+    stopped moves_out forbids forbids_some stops_by stops_by_some stopping_pairs stopping operations.value_of operations.smallest_of operations.reach_of
+    operations.operation_pairs operations.operation_at reached_within spread moved_set moved_below with_moves target including insert has meets meets_below
+    is_empty names_past value_of
 examples = (refl, refl, refl)

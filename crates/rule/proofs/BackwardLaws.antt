@@ -172,7 +172,11 @@ module _ (next : ℕ → ℕ → ℕ) (n k x : ℕ) where
 
     grown : (m : ℕ) → (W (suc m) ≡ W m) ⊎ (suc m ≤ count (W (suc m)) 64)
     grown zero = step zero (omega arith)
-    grown (suc m) = ⊎_elim (λ e. inl (layer_again next n k x (suc m) ∙ ap (λ z. nearer_below next k z n) e ∙ sym (layer_again next n k x m))) (λ g. step (suc m) g) (grown m)
+    grown (suc m) =
+        ⊎_elim
+        (λ e. inl (layer_again next n k x (suc m) ∙ ap (λ z. nearer_below next k z n) e ∙ sym (layer_again next n k x m)))
+        (λ g. step (suc m) g)
+        (grown m)
 
     stays : (j : ℕ) → W (64 + j) ≡ W 64
     stays zero = rw add-zero

@@ -15,7 +15,8 @@ use Rattle.rule.specs.Operations.{reach_of}
 use Rattle.rule.specs.Stopping.{stops_by, stopping_joint}
 use Rattle.rule.specs.Classes.{moves_into, moves_out, forbids, forbids_some}
 use Rattle.rule.specs.Published.{In, Out}
-use Rattle.rule.specs.Refusals.{refuse_if, or_else, first_below, first_cell, entries, member_at, members, exceeds, excess, moves, stopped_pairs, stopped_joint, stopped, first_of}
+use Rattle.rule.specs.Refusals.{refuse_if, or_else, first_below, first_cell, entries, member_at, members}
+use Rattle.rule.specs.Refusals.{exceeds, excess, moves, stopped_pairs, stopped_joint, stopped, first_of}
 use Rattle.rule.specs.Refusals.{conditions}
 use Rattle.rule.specs.Given.{FirstCell, LowestPair, NoCell, NoPair, BadEntry, Names, BadPair, BadSide, by_R, only_P, BadMember, TooMuch, with_R}
 use Rattle.rule.specs.Given.{with_P, Forbidden, into_P, out_of_R, StopsBy, Stops, by_pair, jointly, Named, lowest, no_single, StoppedBy}

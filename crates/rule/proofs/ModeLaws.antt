@@ -99,7 +99,8 @@ module _ (d : Drawing) (whole : length d.pairs ≡ count d) (shaped : Shaped d.s
   abbrev W : WellDrawn d
   W = well_drawn d whole shaped sound
 
-  passes_in : (mode : ℕ) → (operation_at (in_mode mode d) (initial d) ≡ Halt → operation_at d (initial d) ≡ Halt) → first_of (conditions (in_mode mode d)) ≡ Sound
+  passes_in : (mode : ℕ) → (operation_at (in_mode mode d) (initial d) ≡ Halt → operation_at d (initial d) ≡ Halt)
+      → first_of (conditions (in_mode mode d)) ≡ Sound
   unfolding entries members exceeds excess moves
   passes_in mode halts =
       let g = conditions_sound d sound in

@@ -71,7 +71,8 @@ module _ (reached t : ℕ) where
   smallest_lower (p ∷ ps) (suc i) h =
       omega (arith, below_right (value_of p reached t) (smallest_of ps reached t), smallest_lower ps i (omega arith))
 
-  pub smallest_greatest : (ps : List Pair) (c : Operation) → ((i : ℕ) → i < length ps → c ⊑ value_of (get_or ps i no_pair) reached t) → c ⊑ smallest_of ps reached t
+  pub smallest_greatest : (ps : List Pair) (c : Operation) → ((i : ℕ) → i < length ps → c ⊑ value_of (get_or ps i no_pair) reached t)
+      → c ⊑ smallest_of ps reached t
   unfolding smallest_of
   smallest_greatest [] c all = below_dump c
   smallest_greatest (p ∷ ps) c all =

@@ -56,9 +56,9 @@ pub record Samples : Type 0 where
   pub mode_2 : (reading_of (sample_in 2 1 0)).verdict ≡ Refused Range
 
 pub samples : Samples
-unfolding sample_in reading_of verdict_on file_of first_of first_below first_cell entries members exceeds excess moves stopped_pairs stopped_joint stopped trailer_of drawing_in up_to
-    flat_up_to framed classed ranged in_range placed trailer_out value_of digits has is_empty names_past target moves_into forbids forbids_some stops_by
-    stopping_joint good_of meets_all meets_pair those insert including meets_below meets reach_of reached_within spread
+unfolding sample_in reading_of verdict_on file_of first_of first_below first_cell entries members exceeds excess moves stopped_pairs stopped_joint stopped
+    trailer_of drawing_in up_to flat_up_to framed classed ranged in_range placed trailer_out value_of digits has is_empty names_past target moves_into
+    forbids forbids_some stops_by stopping_joint good_of meets_all meets_pair those insert including meets_below meets reach_of reached_within spread
 samples = record { states_64 = refl; states_65 = refl; note_1024 = refl; note_1025 = refl; shortest = refl; bytes = refl; mode_1 = refl; mode_2 = refl }
 
 -- of every file

@@ -42,7 +42,8 @@ number_on : (width x : ℕ) (l : List ℕ) → drop width (digits width x ++ l) 
 number_on width x l = drop_at (digits width x) l width (length_digits width x)
 
 -- a pair, written and read back
-pair_read : (ps : List Pair) (m i : ℕ) → i < m → (get_or ps i no_pair).r < 2 ^ 64 → (get_or ps i no_pair).p < 2 ^ 64 → pair_in (pairs_out ps m) i ≡ get_or ps i no_pair
+pair_read : (ps : List Pair) (m i : ℕ) → i < m → (get_or ps i no_pair).r < 2 ^ 64 → (get_or ps i no_pair).p < 2 ^ 64
+    → pair_in (pairs_out ps m) i ≡ get_or ps i no_pair
 pair_read ps m i h a b =
     let q = get_or ps i no_pair in
     let d = flat_at 16 (λ j. pair_out (get_or ps j no_pair)) (λ j. length_pair_out (get_or ps j no_pair)) m i h in
@@ -143,7 +144,8 @@ module _ (d : Drawing) (s : SoundDrawing d) where
       let k = cells_in s.range in
       let n = s.note_in in
       let m = s.range.few_pairs in
-      let mark : (i : ℕ) → get_or f (length f - 12 + i) 0 ≡ get_or T i 0 = λ i. sym (get_or-drop (length f - 12) f i 0) ∙ ap (λ (t : List ℕ). get_or t i 0) end_read in
+      let mark : (i : ℕ) → get_or f (length f - 12 + i) 0 ≡ get_or T i 0 = λ i. sym (get_or-drop (length f - 12) f i 0)
+      ∙ ap (λ (t : List ℕ). get_or t i 0) end_read in
       let x : length f - 2 ≡ length f - 12 + 10 = omega arith in
       let y : length f - 1 ≡ length f - 12 + 11 = omega arith in
       let t = trailer_marks d.shape in

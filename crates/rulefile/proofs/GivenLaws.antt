@@ -99,7 +99,8 @@ module _ (f : List ℕ) where
   read_ends = by (verdict_on f) (file_answers f)
     where
       by : (v : Verdict) → Answers (Reading f) reading_order v
-          → Ends (Reading f) reading_order (verdict_told (reading_by v (rule_of (drawing_in f))).verdict) ((reading_by v (rule_of (drawing_in f))).rule ≡ zero_rule)
+          → Ends (Reading f) reading_order (verdict_told (reading_by v (rule_of (drawing_in f))).verdict)
+          ((reading_by v (rule_of (drawing_in f))).rule ≡ zero_rule)
       by Sound a = record { tells = done ((sound_exactly (file_within f) a).0 refl); rest = λ n. absurd (n refl) }
       by (Refused x) a = record { tells = refused ((a.gives x).0 refl); rest = λ n. refl }
 

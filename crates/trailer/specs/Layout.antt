@@ -28,7 +28,15 @@ unfoldable pub trailer_of : List ℕ → Trailer
 trailer_of t =
     record {
       shape =
-          record { class = get_or t 0 0; states = get_or t 1 0; events = get_or t 2 0; pairs = get_or t 3 0; initial = state_no (get_or t 4 0); mode = get_or t 5 0 };
+          record {
+            class = get_or t 0 0;
+            states = get_or t 1 0;
+            events = get_or t 2 0;
+            pairs = get_or t 3 0;
+            initial = state_no
+                (get_or t 4 0);
+            mode = get_or t 5 0;
+          };
       tableback = value_of (take 2 (drop 6 t));
       pairsback = value_of (take 2 (drop 8 t));
     }

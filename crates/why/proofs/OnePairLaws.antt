@@ -57,7 +57,8 @@ module _ (d : Drawing) (well : WellDrawn d) (one : count d ≡ 1) (mode t : ℕ)
   unfolding way_told way_for good_of
   one_told = by (operation_at d t) refl
     where
-      by : (o : Operation) → operation_at d t ≡ o → for_store (operation_at (in_mode mode d) t) (way_for (in_mode mode d) t) ≡ for_store (operation_at d t) (way_for d t)
+      by : (o : Operation) → operation_at d t ≡ o → for_store (operation_at (in_mode mode d) t) (way_for (in_mode mode d) t)
+          ≡ for_store (operation_at d t) (way_for d t)
       by Halt q = rw (one_operation, q)
       by Store q =
           rw (one_operation, q)

@@ -23,7 +23,11 @@ pub loop-e-preserved : goal.loop-e-preserved
 loop-e-preserved c =
     let l = c.loop-e in
     let a = c.args in
-    let by : c.if-to-lt-STATES.banned ≡ forbids_some c.args.shape.class (take c.args.shape.pairs c.args.pairs) c.rows.s c.next-to.result.0 = elim c.if-to-lt-STATES.branch [ then-to-lt-STATES w ↦ w.banned-is ∙ w.contains-banned.ensures ∙ c.banned-set.ensures _ w.if-to-lt-STATES.true | else-to-lt-STATES w ↦ w.banned-is ∙ w.forbids_some-banned.ensures ] in
+    let by : c.if-to-lt-STATES.banned ≡ forbids_some c.args.shape.class (take c.args.shape.pairs c.args.pairs) c.rows.s c.next-to.result.0 =
+    elim c.if-to-lt-STATES.branch [
+      | then-to-lt-STATES w ↦ w.banned-is ∙ w.contains-banned.ensures ∙ c.banned-set.ensures _ w.if-to-lt-STATES.true
+      | else-to-lt-STATES w ↦ w.banned-is ∙ w.forbids_some-banned.ensures
+    ] in
     (omega arith, search rules, move_more a.shape _ a.pairs _ l.e c.next-to.ensures by l.invariant.2 c.if-banned.false)
 
 pub rows-preserved : goal.rows-preserved
@@ -35,5 +39,9 @@ returns-after-rows c = search (rules, moves_all)
 pub returns-then-banned : goal.returns-then-banned
 returns-then-banned c =
     let l = c.loop-e in
-    let by : c.if-to-lt-STATES.banned ≡ forbids_some c.args.shape.class (take c.args.shape.pairs c.args.pairs) c.rows.s c.next-to.result.0 = elim c.if-to-lt-STATES.branch [ then-to-lt-STATES w ↦ w.banned-is ∙ w.contains-banned.ensures ∙ c.banned-set.ensures _ w.if-to-lt-STATES.true | else-to-lt-STATES w ↦ w.banned-is ∙ w.forbids_some-banned.ensures ] in
+    let by : c.if-to-lt-STATES.banned ≡ forbids_some c.args.shape.class (take c.args.shape.pairs c.args.pairs) c.rows.s c.next-to.result.0 =
+    elim c.if-to-lt-STATES.branch [
+      | then-to-lt-STATES w ↦ w.banned-is ∙ w.contains-banned.ensures ∙ c.banned-set.ensures _ w.if-to-lt-STATES.true
+      | else-to-lt-STATES w ↦ w.banned-is ∙ w.forbids_some-banned.ensures
+    ] in
     move_hit _ _ _ _ l.e c.next-to.ensures by (search rules) l.invariant.2 c.if-banned.true (search rules) (search rules)

@@ -13,7 +13,8 @@ use Rattle.octets.proofs.CopyLaws.{copied_at}
 use Rattle.octets.proofs.copy.Given as goal
 
 abbrev pub invariant-loop-i : goal.invariant-loop-i
-invariant-loop-i l = (l.i ≤ l.end) × (l.end ≡ min (length l.from) (length l.initial.to)) × (l.to ≡ take l.i l.from ++ drop l.i l.initial.to) × (length l.to ≡ length l.initial.to)
+invariant-loop-i l = (l.i ≤ l.end) × (l.end ≡ min (length l.from) (length l.initial.to)) × (l.to ≡ take l.i l.from ++ drop l.i l.initial.to)
+    × (length l.to ≡ length l.initial.to)
 
 abbrev pub decreases-loop-i : goal.decreases-loop-i
 decreases-loop-i l = l.end - l.i

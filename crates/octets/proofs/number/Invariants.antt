@@ -13,7 +13,8 @@ use Rattle.octets.proofs.NumberLaws.{byte_more, byte_more_fits, value_of_drop}
 use Rattle.octets.proofs.number.Given as goal
 
 abbrev pub invariant-loop-i : goal.invariant-loop-i
-invariant-loop-i l = (l.i ≤ l.initial.i) × (l.initial.i ≡ min 8 (length l.bytes)) × (l.x ≡ value_of (drop l.i (take 8 l.bytes))) × (l.x < 256 ^ (l.initial.i - l.i))
+invariant-loop-i l = (l.i ≤ l.initial.i) × (l.initial.i ≡ min 8 (length l.bytes)) × (l.x ≡ value_of (drop l.i (take 8 l.bytes)))
+    × (l.x < 256 ^ (l.initial.i - l.i))
 
 abbrev pub decreases-loop-i : goal.decreases-loop-i
 decreases-loop-i l = l.i

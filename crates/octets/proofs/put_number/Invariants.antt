@@ -13,7 +13,8 @@ use Rattle.octets.proofs.NumberLaws.{without, without_zero, without_suc, digits_
 use Rattle.octets.proofs.put_number.Given as goal
 
 abbrev pub invariant-loop-i : goal.invariant-loop-i
-invariant-loop-i l = (l.i ≤ length l.initial.out) × (l.out ≡ digits l.i l.x ++ drop l.i l.initial.out) × (l.rest ≡ without l.i l.x) × (length l.out ≡ length l.initial.out)
+invariant-loop-i l = (l.i ≤ length l.initial.out) × (l.out ≡ digits l.i l.x ++ drop l.i l.initial.out) × (l.rest ≡ without l.i l.x)
+    × (length l.out ≡ length l.initial.out)
 
 abbrev pub decreases-loop-i : goal.decreases-loop-i
 decreases-loop-i l = length l.initial.out - l.i

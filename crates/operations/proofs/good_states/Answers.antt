@@ -13,7 +13,10 @@ pub loop-rest-init : goal.loop-rest-init
 loop-rest-init c =
     let a = c.args in
     let good = good_none a.pairs a.count c.if-count-lt8.rest (search rules) in
-    elim c.if-count-lt8.branch [ then-count-lt8 w ↦ (omega arith, omega arith, omega arith, good (omega arith)) | else-count-lt8 w ↦ (omega arith, omega arith, omega arith, good (omega arith)) ]
+    elim c.if-count-lt8.branch [
+      | then-count-lt8 w ↦ (omega arith, omega arith, omega arith, good (omega arith))
+      | else-count-lt8 w ↦ (omega arith, omega arith, omega arith, good (omega arith))
+    ]
 
 pub loop-rest-preserved : goal.loop-rest-preserved
 loop-rest-preserved c =

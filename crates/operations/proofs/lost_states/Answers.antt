@@ -11,7 +11,10 @@ pub loop-left-init : goal.loop-left-init
 loop-left-init c =
     let a = c.args in
     let none = halt_none a.pairs a.shape.pairs c.if-count-lt8.left (search rules) (target a.table.now a.shape.events) a.shape.states a.shape.events in
-    elim c.if-count-lt8.branch [ then-count-lt8 w ↦ (omega arith, omega arith, omega arith, none (omega arith)) | else-count-lt8 w ↦ (omega arith, omega arith, omega arith, none (omega arith)) ]
+    elim c.if-count-lt8.branch [
+      | then-count-lt8 w ↦ (omega arith, omega arith, omega arith, none (omega arith))
+      | else-count-lt8 w ↦ (omega arith, omega arith, omega arith, none (omega arith))
+    ]
 
 pub loop-left-preserved : goal.loop-left-preserved
 loop-left-preserved c =

@@ -10,7 +10,10 @@ pub loop-i-init : goal.loop-i-init
 loop-i-init c =
     let a = c.args in
     let none = smallest_none a.pairs a.count a.reached a.target.0 c.if-count-lt8.i (search rules) in
-    elim c.if-count-lt8.branch [ then-count-lt8 w ↦ (omega arith, omega arith, none (omega arith)) | else-count-lt8 w ↦ (omega arith, omega arith, none (omega arith)) ]
+    elim c.if-count-lt8.branch [
+      | then-count-lt8 w ↦ (omega arith, omega arith, none (omega arith))
+      | else-count-lt8 w ↦ (omega arith, omega arith, none (omega arith))
+    ]
 
 pub loop-i-preserved : goal.loop-i-preserved
 loop-i-preserved c =

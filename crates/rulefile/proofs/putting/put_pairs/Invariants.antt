@@ -8,7 +8,8 @@ use Rattle.rulefile.specs.Layout.{pairs_out}
 use Rattle.rulefile.proofs.putting.put_pairs.Given as goal
 
 abbrev pub invariant-loop-i : goal.invariant-loop-i
-invariant-loop-i l = (l.i ≤ l.end) × (l.end ≡ l.count) × (l.out ≡ pairs_out l.pairs l.i ++ drop (16 * l.i) l.initial.out) × (length l.out ≡ length l.initial.out)
+invariant-loop-i l = (l.i ≤ l.end) × (l.end ≡ l.count) × (l.out ≡ pairs_out l.pairs l.i ++ drop (16 * l.i) l.initial.out)
+    × (length l.out ≡ length l.initial.out)
 
 abbrev pub decreases-loop-i : goal.decreases-loop-i
 decreases-loop-i l = l.end - l.i

@@ -9,7 +9,8 @@ use Rattle.why.proofs.ways.follow.Given as goal
 
 abbrev pub invariant-loop-i : goal.invariant-loop-i
 invariant-loop-i l = (l.i ≤ length l.initial.out) × (length l.out ≡ length l.initial.out) × (l.s.0 < length l.steps)
-    × (take l.i l.out ++ followed (target l.table l.events) l.steps (length l.initial.out - l.i) l.s.0 ≡ followed (target l.table l.events) l.steps (length l.initial.out) l.initial.s.0)
+    × (take l.i l.out ++ followed (target l.table l.events) l.steps (length l.initial.out - l.i) l.s.0
+    ≡ followed (target l.table l.events) l.steps (length l.initial.out) l.initial.s.0)
 
 abbrev pub decreases-loop-i : goal.decreases-loop-i
 decreases-loop-i l = length l.initial.out - l.i

@@ -26,7 +26,8 @@ loop-s-preserved c =
         rw w.out-is (nearer_new a.table.now a.states a.events a.set a.rows.now l.s _ c.requires.2 (search rules) c.requires.1
             (search rules) refl l.out _ l.invariant.2 w.if-set-row-ne0.true w.insert-out.ensures),
         rw w.steps-is (steps_new a.table.now a.states a.events a.set a.rows.now l.s _ c.requires.2 (search rules) c.requires.1
-            (search rules) refl a.steps.now l.steps _ _ l.invariant.3 c.contains.ensures (ap not w.if-not-contains.true) w.event_into.ensures w.if-set-row-ne0.true),
+            (search rules) refl a.steps.now l.steps _ _ l.invariant.3 c.contains.ensures
+            (ap not w.if-not-contains.true) w.event_into.ensures w.if-set-row-ne0.true),
       )
       | then-not-contains+else-set-row-ne0 w ↦ (
         search rules,
