@@ -41,7 +41,7 @@ pub struct Shape {
 }
 
 // A rule by value: of the note the first `length` bytes are used, of the table the first N*K, of the pairs the first m.
-#[derive(Drop)]
+#[derive(Clone, Copy)]
 pub struct Rule {
     pub shape: Shape,
     pub length: usize,
@@ -105,7 +105,7 @@ impl Operation {
     }
 }
 
-// The refusals by number, with their places A and B where they have any. `toldOf` of specs/ gives each its number; 10 is never given and stays unused.
+// The refusals by number, with their places A and B where they have any. `told_of` of specs/ gives each its number; 10 is never given and stays unused.
 #[derive(Clone, Copy)]
 pub enum Refusal {
     Frame,

@@ -22,7 +22,7 @@ pub struct Contents {
 }
 
 // What reading comes to: where it is sound the rule, else a rule with 0 in every place.
-#[derive(Drop)]
+#[derive(Clone, Copy)]
 pub struct Reading {
     pub verdict: Verdict,
     pub rule: Rule,
