@@ -42,8 +42,7 @@ fn put_end(out: &mut [u8], shape: Shape)
     octets::copy(&bytes, out);
 }
 
-// Puts the sheet of a rule to the front of the output: refusal 16. It has a frame of its own, so that the one in which the file is looked at is gone by then, and
-// a call takes less of the stack.
+// Puts the sheet of a rule to the front of the output: refusal 16. It has a frame of its own, which is not on the stack while the file is looked at.
 #[inline(never)]
 pub(crate) fn put(out: &mut [u8], table: &[u8], shape: Shape, pairs: [Pair; 8]) -> Written
     requires { WellDrawn (body shape table.now pairs) × ((i : ℕ) → get_or table.now i 0 < shape.states) × (length table.now ≤ 2048) }
