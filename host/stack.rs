@@ -208,7 +208,7 @@ fn main() {
     if !over.is_empty() {
         eprintln!("stack: {}", over.join("\nstack: "));
         eprintln!(
-            "stack: a function on that way recurses, or has an array or a large struct by value. `objdump -d target/staticlib/libpachallu.a` shows it:\n\
+            "stack: a function on that way recurses, or has an array or a large struct by value. `objdump -d target/host/libpachallu.a` shows it:\n\
              stack: a call to itself, or a great number taken off rsp. Lend such a value as a slice, keep one set of states at a time, and let a loop do it."
         );
         std::process::exit(1);

@@ -1,10 +1,11 @@
 # shellcheck shell=sh disable=SC2154,SC2034,SC2086
 # host/tools.sh: what run, bench, the Makefile, host/host-test, examples/show and command/test share. It is sourced, with $me the name for messages and
-# $top the root of the project. The library is x86-64 code: on aarch64 a cross compiler links and Debian's emulator runs.
+# $top the root of the project. The library is x86-64 code: on aarch64 a cross compiler links and Debian's emulator runs. What is built here lies in
+# target/host; the toolchain keeps its own work in crates/*/out.
 
 triple=x86_64-unknown-linux-gnu
 built=$top/target/host
-# Debian's emulator by its full path: the one of the Rattle toolchain does not run programs of Rust
+# Debian's emulator by its full path
 qemu=/usr/bin/qemu-x86_64
 
 say() { printf '%s: %s\n' "$me" "$*" >&2; }
@@ -26,7 +27,7 @@ has() {
 # lock, unlock: of two that build in this folder at once, the second waits for the first
 lock() {
     mkdir -p "$built"
-    # not a file of target/, which rt ci takes away
+    # not a file of target/, which anybody may remove
     exec 9<"$top/crates.txt"
     flock -n 9 || {
         say "another command is building in this folder; waiting for it"
@@ -94,13 +95,13 @@ need_rust() {
     ready_rust || die "the packages were installed, but there is still no Rust for $triple"
 }
 
-# stale FILE SOURCE..: is FILE missing, or older than something in the sources?
+# stale FILE SOURCE..: is FILE missing, or older than something in the sources? What rt keeps in out/ is no source.
 stale() {
     made=$1
     shift
     [ -f "$made" ] || return 0
     for source in "$@"; do
-        [ ! -e "$source" ] || [ -z "$(find "$source" -type f -newer "$made" | head -n 1)" ] || return 0
+        [ ! -e "$source" ] || [ -z "$(find "$source" -name out -prune -o -type f -newer "$made" -print | head -n 1)" ] || return 0
     done
     return 1
 }
@@ -111,15 +112,13 @@ no_rattle() {
 }
 
 # want_rattle: is the toolchain there, where the library has to be built? To be asked before anything is installed.
-want_rattle() { has rt || ! stale "$top/target/staticlib/libpachallu.a" "$top/crates" "$top/crates.txt" || no_rattle; }
+want_rattle() { has rt || ! stale "$built/libpachallu.a" "$top/crates" "$top/crates.txt" || no_rattle; }
 
 # crates_seen: names each crate of which rt has told something, as it comes
 crates_seen() {
     seen=' '
     while IFS= read -r line; do
         case $line in
-        rt:\ *,*) continue ;;
-        rt:\ *\ proved*) crate=${line#rt: } crate=${crate%% *} ;;
         *::*:\ proved) crate=${line#* } crate=${crate%%::*} ;;
         *) continue ;;
         esac
@@ -130,28 +129,37 @@ crates_seen() {
     done
 }
 
-# rattle WORD..: runs rt in the project
+# rattle CRATE WORD FILE: what rt WORD makes of a crate, its file out/FILE; it proves that crate and those below it where that is not done yet
 rattle() {
     has rt || no_rattle
     mkdir -p "$built"
-    say "building and proving, about two minutes the first time (rt $*):"
+    say "building and proving, some minutes the first time (rt $2 in crates/$1):"
     {
-        (cd "$top" && rt "$@" 9>&- 2>&1) && echo 0 >"$built/rt.status" || echo 1 >"$built/rt.status"
+        (cd "$top/crates/$1" && rt "$2" 9>&- 2>&1 </dev/null) && echo 0 >"$built/rt.status" || echo 1 >"$built/rt.status"
     } | tee "$built/rt.log" | crates_seen
     [ "$(cat "$built/rt.status")" = 0 ] || {
         tail -n 30 "$built/rt.log" >&2
-        die "rt $* did not succeed (all of it in target/host/rt.log)"
+        die "rt $2 in crates/$1 did not succeed (all of it in target/host/rt.log)"
     }
+    [ -f "$top/crates/$1/out/$3" ] || die "rt $2 in crates/$1 left no crates/$1/out/$3"
+}
+
+# need_made FILE CRATE WORD MADE: target/host/FILE, a copy of what rt WORD makes of a crate as out/MADE
+need_made() {
+    ! stale "$built/$1" "$top/crates" "$top/crates.txt" && return 0
+    lock
+    ! stale "$built/$1" "$top/crates" "$top/crates.txt" || {
+        rattle "$2" "$3" "$4"
+        cp "$top/crates/$2/out/$4" "$built/$1.new"
+        mv "$built/$1.new" "$built/$1"
+    }
+    unlock
 }
 
 # need_archive: the library, $archive
 need_archive() {
-    archive=$top/target/staticlib/libpachallu.a
-    ! stale "$archive" "$top/crates" "$top/crates.txt" && return 0
-    lock
-    ! stale "$archive" "$top/crates" "$top/crates.txt" || rattle staticlib pachallu
-    unlock
-    [ -f "$archive" ] || die "rt staticlib pachallu left no target/staticlib/libpachallu.a"
+    archive=$built/libpachallu.a
+    need_made libpachallu.a pachallu_c lib libpachallu_c.a
 }
 
 # flags: how every C program of the project is compiled. The tests add -Werror: a compiler of tomorrow may warn of more, and still build.
@@ -176,22 +184,12 @@ need_command() {
 # quoted WORD: the word as the shell reads it back
 quoted() { printf "'%s' " "$(printf %s "$1" | sed "s/'/'\\\\''/g")"; }
 
-# need_table: the program table, and the shell words that start it, $table
+# need_table: the program table, and the shell words that start it, $table. (rt run makes it, and runs it on no input.)
 need_table() {
-    program=$top/target/bin/table
-    ! stale "$program" "$top/crates" "$top/crates.txt" || {
-        lock
-        ! stale "$program" "$top/crates" "$top/crates.txt" || rattle check table
-        unlock
-    }
-    [ -f "$program" ] || die "rt check table left no target/bin/table"
-    has rt || die "the command rt of the Rattle toolchain is not on PATH; it brings what runs target/bin/table"
-    kit=$(readlink -f "$(command -v rt)")
-    kit=${RATTLE_HOME:-${kit%/bin/rt}}/on/$(uname -m)/toolchain
-    [ -f "$kit/lib/ld-linux-x86-64.so.2" ] || die "the Rattle toolchain has no $kit/lib/ld-linux-x86-64.so.2"
-    table=
-    [ ! -x "$kit/bin/qemu-x86_64" ] || table=$(quoted "$kit/bin/qemu-x86_64")
-    table="$table$(quoted "$kit/lib/ld-linux-x86-64.so.2")--library-path $(quoted "$kit/lib")$(quoted "$program")"
+    need_made table table run table
+    table=$(quoted "$built/table")
+    # the program is linked with the C library of x86-64, which Debian's cross compiler brings
+    [ -z "$cross" ] || table="$(quoted "$emulator")-L /usr/x86_64-linux-gnu $table"
 }
 
 # compile NAME: host/NAME.rs with the library linked in, as target/host/NAME

@@ -42,7 +42,8 @@ fn put_end(out: &mut [u8], shape: Shape)
     octets::copy(&bytes, out);
 }
 
-// Puts the sheet of a rule to the front of the output: refusal 16.
+// Puts the sheet of a rule to the front of the output: refusal 16. It has a frame of its own, which is not on the stack while the file is looked at.
+#[inline(never)]
 pub(crate) fn put(out: &mut [u8], table: &[u8], shape: Shape, pairs: [Pair; 8]) -> Written
     requires { WellDrawn (body shape table.now pairs) × ((i : ℕ) → get_or table.now i 0 < shape.states) × (length table.now ≤ 2048) }
     ensures { PutPromise Sound (sheet_of (body shape table.now pairs)) out.old result out.new }
