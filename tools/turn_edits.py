@@ -1,13 +1,15 @@
 #!/usr/bin/env python3
 """Brings the texts of the must-fail edits over to today's spelling of the files that they change.
 
-usage: python3 tools/turn_edits.py COMMIT [--check]      at the top of the repository, after port.py and snake_names.py; COMMIT is the last one in the older spelling
+usage: python3 tools/turn_edits.py COMMIT [--check]      at the top of the repository, after port.py and snake_names.py
 
-An edit must fit its file: each `old:` stands there once. port.py leaves the edits alone, so this script reads each edit and the file that it changes as they stood
-at COMMIT, lays that file beside today's, and learns word by word what each name became. It turns the names of `old:` and `new:` alike, and the forms that the
-toolchain writes otherwise: `x .f` is `x.f`, `(x .f)` as an argument is `x.f`, `f x .g` is `(f x).g`, and a clause has neither `⌜ ⌝` nor `λ r.`. An edit whose turned
-text still doesn't fit is left as it is, and printed on a line that begins 'left:', for a hand to mend; so is one that fits today and says something else, where a
-hand was at work. --check writes nothing.
+COMMIT is the last one in the older spelling. An edit must fit its file: each `old:` stands there once. port.py leaves the edits alone, so this script reads
+each edit and the file that it changes as they stood at COMMIT, lays that file beside today's, and learns word by word what each name became. It turns the names
+of `old:` and `new:` alike, and the forms that the toolchain writes otherwise: `x .f` is `x.f`, `(x .f)` as an argument is `x.f`, `f x .g` is `(f x).g`, and a
+clause has neither `⌜ ⌝` nor `λ r.`.
+
+An edit whose turned text still doesn't fit is left as it is, and printed on a line that begins 'left:', for a hand to mend; so is one that fits today and says
+something else, where a hand was at work. --check writes nothing.
 """
 
 import collections
