@@ -1,4 +1,4 @@
--- `checks::all_below` meets its contract: all of the entries passed are below n. Assumes nothing.
+-- What `checks::all_below` keeps at each turn: all of the entries passed are below n. Assumes nothing.
 use mathlib.Core.Path.{◌≡◌}
 use Prim.Native.Nat.{◌-◌, ◌≤◌}
 use lib.ListN.{length, take}

@@ -1,4 +1,4 @@
--- `checks::check_alone` meets its contract: the pairs passed are sound.
+-- What `checks::check_alone` keeps at each turn: the pairs passed are sound.
 -- Assumes nothing.
 use Prim.Native.Nat.{◌-◌, ◌≤◌}
 use mathlib.Core.Path.{◌≡◌}

@@ -1,4 +1,4 @@
--- `checks::check_entries` meets its contract: all entries are low, or the cells passed are sound, in this row and in the rows before.
+-- What `checks::check_entries` keeps at each turn: all entries are low, or the cells passed are sound, in this row and in the rows before.
 -- Assumes nothing.
 use Prim.Native.Nat.{◌-◌, ◌≤◌}
 use mathlib.Core.Path.{◌≡◌}

@@ -1,4 +1,4 @@
--- `checks::check_members` meets its contract: the pairs passed are sound.
+-- What `checks::check_members` keeps at each turn: the pairs passed are sound.
 -- Assumes nothing.
 use Prim.Native.Nat.{◌-◌, ◌≤◌}
 use mathlib.Core.Path.{◌≡◌}

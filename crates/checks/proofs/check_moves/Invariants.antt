@@ -1,4 +1,4 @@
--- `checks::check_moves` meets its contract: the cells passed are sound, in this row and in the rows before.
+-- What `checks::check_moves` keeps at each turn: the cells passed are sound, in this row and in the rows before.
 -- Assumes nothing.
 use Prim.Native.Nat.{◌-◌, ◌≤◌}
 use mathlib.Core.Path.{◌≡◌}

@@ -13,21 +13,19 @@ loop-s-init c = (search rules, cells_none _ _)
 
 pub returns-then-e-events : goal.returns-then-e-events
 returns-then-e-events c =
-    let entry = c.before in
-    let a = entry.args in
+    let a = c.args in
     let l = c.loop-s in
     let x = c.banned in
-    row_hit a.shape a.table.now a.pairs entry.requires.0 entry.requires.1 l.s (search rules) x.result x.ensures _ c.event_into-e.ensures
+    row_hit a.shape a.table.now a.pairs c.requires.0 c.requires.1 l.s (search rules) x.result x.ensures _ c.event_into-e.ensures
     l.invariant.1 (search rules)
 
 pub loop-s-preserved : goal.loop-s-preserved
 loop-s-preserved c =
-    let entry = c.before in
-    let a = entry.args in
+    let a = c.args in
     let l = c.loop-s in
     let x = c.banned in (
       search rules,
-      row_none a.shape a.table.now a.pairs entry.requires.0 entry.requires.1 l.s (search rules) x.result x.ensures _
+      row_none a.shape a.table.now a.pairs c.requires.0 c.requires.1 l.s (search rules) x.result x.ensures _
           c.event_into-e.ensures l.invariant.1 (search rules),
     )
 

@@ -1,4 +1,4 @@
--- `checks::first_banned` meets its contract: the rows passed are sound. Assumes nothing.
+-- What `checks::first_banned` keeps at each turn: the rows passed are sound. Assumes nothing.
 use mathlib.Core.Path.{◌≡◌}
 use Prim.Native.Nat.{◌-◌, ◌≤◌}
 use lib.ListN.{take}

@@ -1,4 +1,4 @@
--- `checks::forbids_some` meets its contract: none of the pairs passed forbids the move.
+-- What `checks::forbids_some` keeps at each turn: none of the pairs passed forbids the move.
 -- Assumes nothing.
 use Prim.Native.Nat.{◌-◌, ◌≤◌}
 use mathlib.Core.Path.{◌≡◌}

@@ -1,4 +1,4 @@
--- `octets::copy` meets its contract: what has been copied stands in front of what was there.
+-- What `octets::copy` keeps at each turn: what has been copied stands in front of what was there.
 -- Assumes nothing.
 use Prim.Native.Nat.{◌-◌, ◌≤◌, min}
 use mathlib.Core.Path.{◌≡◌, refl}

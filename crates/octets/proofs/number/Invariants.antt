@@ -1,4 +1,4 @@
--- `octets::number` meets its contract: the bytes that have been passed are the number so far.
+-- What `octets::number` keeps at each turn: the bytes that have been passed are the number so far.
 -- Assumes nothing.
 use Prim.Native.Nat.{suc, ◌-◌, ◌^◌, ◌≤◌, ◌<◌, min}
 use mathlib.Core.Path.{◌≡◌, sym, ap}

@@ -1,4 +1,4 @@
--- `octets::put_number` meets its contract: the lowest bytes stand in front, and what is left of the number is known.
+-- What `octets::put_number` keeps at each turn: the lowest bytes stand in front, and what is left of the number is known.
 -- Assumes nothing.
 use Prim.Native.Nat.{◌-◌, ◌%◌, ◌≤◌}
 use mathlib.Core.Path.{◌≡◌, refl, sym}

@@ -1,4 +1,4 @@
--- `operations::good_states` meets its contract: the loop goes from the last used pair down to the first. Assumes nothing.
+-- What `operations::good_states` keeps at each turn: the loop goes from the last used pair down to the first. Assumes nothing.
 use Prim.Native.Nat.{◌≤◌, ◌<◌, ◌^◌}
 use lib.ListN.{take, drop}
 use Rattle.rule.specs.Acceptance.{meets_all}

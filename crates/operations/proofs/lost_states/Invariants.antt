@@ -1,4 +1,4 @@
--- `operations::lost_states` meets its contract: the loop goes from the last used pair down to the first. Assumes nothing.
+-- What `operations::lost_states` keeps at each turn: the loop goes from the last used pair down to the first. Assumes nothing.
 use Prim.Native.Nat.{◌≤◌, ◌<◌, ◌^◌}
 use lib.ListN.{take, drop}
 use Rattle.rule.specs.Backward.{lost_by_some}

@@ -1,4 +1,4 @@
--- `operations::operation` meets its contract: the loop goes from the last used pair down to the first.
+-- What `operations::operation` keeps at each turn: the loop goes from the last used pair down to the first.
 -- Assumes nothing.
 use mathlib.Core.Path.{◌≡◌}
 use Prim.Native.Nat.{◌≤◌}

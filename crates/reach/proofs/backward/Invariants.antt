@@ -1,4 +1,4 @@
--- `reach::backward` meets its contract: sweeps until one adds nothing. Each that adds something leaves fewer states outside the set.
+-- What `reach::backward` keeps at each turn: sweeps until one adds nothing. Each that adds something leaves fewer states outside the set.
 -- Assumes nothing.
 use Prim.Native.Nat.{◌-◌, ◌^◌, ◌<◌}
 use Rattle.rule.specs.Reach.{target}

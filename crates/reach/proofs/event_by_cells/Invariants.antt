@@ -1,4 +1,4 @@
--- `reach::event_by_cells` meets its contract: no event below e leads from s into the set. Assumes nothing.
+-- What `reach::event_by_cells` keeps at each turn: no event below e leads from s into the set. Assumes nothing.
 use Prim.Native.Nat.{◌≤◌, ◌-◌}
 use Rattle.reach.proofs.StepLaws.{NoneYet}
 use Rattle.reach.proofs.event_by_cells.Given as goal

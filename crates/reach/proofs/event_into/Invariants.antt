@@ -1,4 +1,4 @@
--- `reach::event_into` meets its contract: no event below e leads from s into the set. Assumes nothing.
+-- What `reach::event_into` keeps at each turn: no event below e leads from s into the set. Assumes nothing.
 use mathlib.Core.Bool.{false}
 use mathlib.Core.Path.{◌≡◌}
 use Prim.Native.Nat.{◌≤◌, ◌-◌}

@@ -1,4 +1,4 @@
--- `reach::moved` meets its contract: the loop goes from one member to the next, and what lies between adds nothing.
+-- What `reach::moved` keeps at each turn: the loop goes from one member to the next, and what lies between adds nothing.
 -- Assumes nothing.
 use mathlib.Core.Path.{◌≡◌}
 use Prim.Native.Nat.{◌≤◌, ◌-◌, ◌/◌, ◌^◌}

@@ -1,4 +1,4 @@
--- `reach::reached` meets its contract: what is reached from here in the moves left is what is reached from the start in all of them.
+-- What `reach::reached` keeps at each turn: what is reached from here in the moves left is what is reached from the start in all of them.
 -- Assumes nothing.
 use mathlib.Core.Path.{◌≡◌}
 use Prim.Native.Nat.{◌-◌, ◌^◌, ◌<◌}

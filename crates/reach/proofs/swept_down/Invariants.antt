@@ -1,4 +1,4 @@
--- `reach::swept_down` meets its contract: a sweep from here down comes to what it comes to from the start. Assumes nothing.
+-- What `reach::swept_down` keeps at each turn: a sweep from here down comes to what it comes to from the start. Assumes nothing.
 use mathlib.Core.Path.{◌≡◌}
 use Rattle.rule.specs.Backward.{swept_down}
 use Rattle.rule.specs.Reach.{target}

@@ -1,4 +1,4 @@
--- `reach::swept_up` meets its contract: the states below s were tried. Assumes nothing.
+-- What `reach::swept_up` keeps at each turn: the states below s were tried. Assumes nothing.
 use mathlib.Core.Path.{◌≡◌}
 use Prim.Native.Nat.{◌≤◌, ◌-◌}
 use Rattle.rule.specs.Backward.{swept_up}

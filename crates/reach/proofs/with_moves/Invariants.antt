@@ -1,4 +1,4 @@
--- `reach::with_moves` meets its contract: both loops build the definition one event at a time.
+-- What `reach::with_moves` keeps at each turn: both loops build the definition one event at a time.
 -- Assumes nothing.
 use mathlib.Core.Path.{◌≡◌}
 use Prim.Native.Nat.{◌≤◌, ◌-◌}

@@ -1,4 +1,4 @@
--- `fills` meets its contract: the walk from here comes to what the walk from the start comes to. Assumes nothing.
+-- What `fills` keeps at each turn: the walk from here comes to what the walk from the start comes to. Assumes nothing.
 use Prim.Native.Nat.{◌+◌, ◌*◌, ◌≤◌}
 use mathlib.Core.Path.{◌≡◌}
 use lib.ListN.{length}

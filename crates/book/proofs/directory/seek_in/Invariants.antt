@@ -1,4 +1,4 @@
--- `seek_in` meets its contract: what is found from here is what is found from the start. Assumes nothing.
+-- What `seek_in` keeps at each turn: what is found from here is what is found from the start. Assumes nothing.
 use Prim.Native.Nat.{◌≤◌}
 use mathlib.Core.Path.{◌≡◌}
 use lib.ListN.{length}

@@ -1,4 +1,4 @@
--- `put_moved` meets its contract: after i entries they stand at the front, their distances grown. Assumes nothing.
+-- What `put_moved` keeps at each turn: after i entries they stand at the front, their distances grown. Assumes nothing.
 use Prim.Native.Nat.{◌-◌, ◌*◌, ◌≤◌}
 use mathlib.Core.Path.{◌≡◌}
 use mathlib.Core.List.{◌++◌}

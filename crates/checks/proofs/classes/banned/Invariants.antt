@@ -1,4 +1,4 @@
--- `checks::classes::banned` meets its contract: the set has what the pairs passed forbid.
+-- What `checks::classes::banned` keeps at each turn: the set has what the pairs passed forbid.
 -- Assumes nothing.
 use Prim.Native.Nat.{◌-◌, ◌≤◌, min}
 use mathlib.Core.Path.{◌≡◌}

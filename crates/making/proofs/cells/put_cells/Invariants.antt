@@ -1,4 +1,4 @@
--- `put_cells` meets its contract: the cells below i stand at the front. Assumes nothing.
+-- What `put_cells` keeps at each turn: the cells below i stand at the front. Assumes nothing.
 use mathlib.Core.Path.{◌≡◌}
 use mathlib.Core.List.{map, ◌++◌}
 use Prim.Native.Nat.{◌≤◌, ◌-◌}

@@ -1,4 +1,4 @@
--- `printed::lines::put_cells` meets its contract: the loop puts row after row.
+-- What `printed::lines::put_cells` keeps at each turn: the loop puts row after row.
 -- Assumes nothing.
 use Prim.Native.Nat.{◌-◌, ◌≤◌}
 use Rattle.rule.specs.Reach.{target}

@@ -1,4 +1,4 @@
--- `printed::lines::put_row` meets its contract: the loop puts cell after cell.
+-- What `printed::lines::put_row` keeps at each turn: the loop puts cell after cell.
 -- Assumes nothing.
 use Prim.Native.Nat.{◌-◌, ◌≤◌}
 use Rattle.rule.specs.Reach.{target}

@@ -1,4 +1,4 @@
--- `printed::lines::put_stops` meets its contract: the loop puts state after state.
+-- What `printed::lines::put_stops` keeps at each turn: the loop puts state after state.
 -- Assumes nothing.
 use Prim.Native.Nat.{◌-◌, ◌≤◌}
 use Rattle.rulefile.specs.Layout.{flat_up_to}

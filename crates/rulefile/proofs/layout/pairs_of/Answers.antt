@@ -14,8 +14,8 @@ use Rattle.rulefile.proofs.ListLaws.{length_up_to, padded_more}
 use Rattle.rulefile.proofs.layout.pairs_of.Goals as goal
 
 -- the number that eight bytes are
-pair-number : (s : List ℕ) (a e : ℕ) → e ≡ a + 8 → {x : ℕ} → x ≡ value_of (take 8 (take (e - a) (drop a s))) → x ≡ value_of (take 8 (drop a s))
-pair-number s a e h q =
+pair_number : (s : List ℕ) (a e : ℕ) → e ≡ a + 8 → {x : ℕ} → x ≡ value_of (take 8 (take (e - a) (drop a s))) → x ≡ value_of (take 8 (drop a s))
+pair_number s a e h q =
     let k : e - a ≡ 8 = omega arith in
     q ∙ ap (λ (j : ℕ). value_of (take 8 (take j (drop a s)))) k ∙ value_of_part 8 (drop a s) (omega arith)
 
@@ -28,8 +28,8 @@ unfolding up_to
 loop-i-preserved c =
     let l = c.loop-i in
     let s = c.args.bytes.now in
-    let r = pair-number s (16 * l.i) (16 * l.i + 8) (omega arith) c.number-r.ensures in
-    let p = pair-number s (16 * l.i + 8) (16 * l.i + 16) (omega arith) c.number-p.ensures in (
+    let r = pair_number s (16 * l.i) (16 * l.i + 8) (omega arith) c.number-r.ensures in
+    let p = pair_number s (16 * l.i + 8) (16 * l.i + 16) (omega arith) c.number-p.ensures in (
       omega arith,
       l.invariant.1,
       rw (l.invariant.2, r, p, add-one)

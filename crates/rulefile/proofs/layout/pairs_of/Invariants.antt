@@ -1,4 +1,4 @@
--- `rulefile::layout::pairs_of` meets its contract: the pairs passed stand in front of empty ones.
+-- What `rulefile::layout::pairs_of` keeps at each turn: the pairs passed stand in front of empty ones.
 -- Assumes nothing.
 use Prim.Native.Nat.{◌-◌, ◌≤◌}
 use mathlib.Core.Path.{◌≡◌}

@@ -1,4 +1,4 @@
--- `rulefile::putting::put_pairs` meets its contract: the pairs passed stand in front of what was there.
+-- What `rulefile::putting::put_pairs` keeps at each turn: the pairs passed stand in front of what was there.
 -- Assumes nothing.
 use Prim.Native.Nat.{◌-◌, ◌*◌, ◌≤◌}
 use mathlib.Core.Path.{◌≡◌}

@@ -1,4 +1,4 @@
--- `lost` meets its contract. Assumes nothing.
+-- What `lost` keeps at each turn. Assumes nothing.
 use Prim.Native.Nat.{◌≤◌, ◌-◌}
 use Rattle.why.proofs.PickLaws.{NoneLost}
 use Rattle.why.proofs.grounds.lost.Given as goal

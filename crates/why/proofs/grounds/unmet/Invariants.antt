@@ -1,4 +1,4 @@
--- `unmet` meets its contract. Assumes nothing.
+-- What `unmet` keeps at each turn. Assumes nothing.
 use Prim.Native.Nat.{◌≤◌, ◌-◌}
 use Rattle.why.proofs.PickLaws.{AllMet}
 use Rattle.why.proofs.grounds.unmet.Given as goal

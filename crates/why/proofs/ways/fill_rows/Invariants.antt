@@ -1,4 +1,4 @@
--- `fill_rows` meets its contract: the slice has the moves of each state below s.
+-- What `fill_rows` keeps at each turn: the slice has the moves of each state below s.
 -- Assumes nothing.
 use mathlib.Core.Path.{◌≡◌}
 use Prim.Native.Nat.{◌≤◌, ◌-◌}

@@ -12,12 +12,11 @@ loop-i-init c =
 
 pub loop-i-preserved : goal.loop-i-preserved
 loop-i-preserved c =
-    let start = c.before in
-    let a = start.args in
+    let a = c.args in
     let l = c.loop-i in (
       search rules,
       search (rules, length-set),
-      moved_in a.table.now a.events (length a.steps.now) _ _ _ start.requires.0 c.next-s.ensures,
+      moved_in a.table.now a.events (length a.steps.now) _ _ _ c.requires.0 c.next-s.ensures,
       follow_more a.table.now a.events a.steps.now l.out _ (length a.out.now) l.i l.s.0 _
           (search rules) (search rules) c.next-s.ensures l.invariant.3,
     )

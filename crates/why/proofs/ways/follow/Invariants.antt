@@ -1,4 +1,4 @@
--- `follow` meets its contract. Assumes nothing.
+-- What `follow` keeps at each turn. Assumes nothing.
 use mathlib.Core.Path.{◌≡◌}
 use mathlib.Core.List.{◌++◌}
 use Prim.Native.Nat.{◌≤◌, ◌-◌, ◌<◌}

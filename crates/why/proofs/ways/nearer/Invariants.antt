@@ -1,4 +1,4 @@
--- `nearer` meets its contract: one state at a time, in the set and in the array of steps.
+-- What `nearer` keeps at each turn: one state at a time, in the set and in the array of steps.
 -- Assumes nothing.
 use mathlib.Core.Path.{◌≡◌}
 use Prim.Native.Nat.{◌≤◌, ◌-◌}

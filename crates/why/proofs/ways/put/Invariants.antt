@@ -1,4 +1,4 @@
--- `put` meets its contract: the rounds go on until t is found, and then the steps are followed from it.
+-- What `put` keeps at each turn: the rounds go on until t is found, and then the steps are followed from it.
 -- Assumes nothing.
 use Prim.Native.Nat.{◌≤◌, ◌-◌}
 use Rattle.why.proofs.SoughtLaws.{Sought}
