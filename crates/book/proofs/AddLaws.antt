@@ -1,36 +1,30 @@
 -- Adding: what it writes is the book of the list with one entry more, the returns of `add`, and what the new book is to the old one.
 -- Assumes nothing.
-use Prim.Native.Nat.{ℕ, zero, suc, ◌+◌, ◌-◌, ◌*◌, ◌≤◌, ◌<◌}
+use Prim.Native.Nat.{ℕ, zero, suc, ◌+◌, ◌-◌, ◌*◌, ◌<◌}
 use native.Mathlib.Omega.{arith}
-use borrow.Author.Tests.{le-leb, lt-leb, eq-eqb, ne_eqb, leb-false, not-true, not-false}
+use borrow.Author.Tests.{eq-eqb, ne_eqb, leb-false, not-false}
 use mathlib.Core.Path.{◌≡◌, refl, sym, ap, ◌∙◌}
-use mathlib.Core.Bool.{Bool, true, false, not}
+use mathlib.Core.Bool.{true}
 use mathlib.Core.List.{List, [], ◌∷◌, ◌++◌, append_assoc, append-nil}
-use lib.Dec.{leb}
 use lib.ListN.{length, take, length-append}
 use lib.Seq.{take_at, drop_at}
 use Rattle.octets.specs.Numbers.{Bytes, digits}
-use Rattle.rule.specs.Refusals.{refuse_if}
 use Rattle.rule.specs.declared.Refusal.{Refusal}
-use Rattle.rule.specs.declared.Refusal.TheVariants.{Book, Full}
-use Rattle.rule.specs.declared.Verdict.TheVariants.{Sound, Refused as Unsound}
-use Rattle.rule.proofs.RefusalLaws.{first_hit, first_more, first_one, first_sound, refuse_sound}
+use Rattle.std.specs.Prelude.{None, Ok, Err}
+use Rattle.rule.specs.declared.Refusal.TheVariants.{Missing}
+use Rattle.rule.proofs.RefusalLaws.{first_hit, first_more, first_sound, refuse_sound}
 use Rattle.rulefile.specs.Layout.{flat_up_to}
 use Rattle.rulefile.specs.Reading.{verdict_on, parts_of}
-use Rattle.rule.specs.Putting.{PutPromise}
 use Rattle.rulefile.specs.declared.Contents.{Contents}
-use Rattle.rule.specs.declared.Written.{Written}
-use Rattle.rule.specs.declared.Written.TheVariants.{Done, Refused}
 use Rattle.rule.proofs.PutLaws.{put_done}
 use Rattle.rulefile.proofs.ListLaws.{flat_ext}
-use Rattle.rulefile.proofs.PartsLaws.{sound_parts, parts_verdict}
+use Rattle.rulefile.proofs.PartsLaws.{sound_file, sound_parts, parts_refused, parts_sound}
 use Rattle.rule.proofs.PutLaws.{keeps_refused}
 use Rattle.book.specs.Book.{Filed, filed, rules_of, entry_of, directory_of, after_rules, book_of, Keepable, AllKeepable, IsBookOf}
 use Rattle.book.specs.Directory.{length_at, distance_at, count_in, directory_in, filled, well_formed, entries_from, entries_in}
 use Rattle.book.specs.Finding.{newest_first, seek, sought_in}
 use Rattle.book.specs.Adding.{with_rule, add_verdict, AddPromise, Adds, moved_at, moved_of, last_of, grown}
-use Rattle.book.specs.declared.Sought.TheVariants.{Older, Nowhere}
-use Rattle.book.proofs.DirectoryLaws.{filled_says, formed_says, formed_long, formed_fits}
+use Rattle.book.proofs.DirectoryLaws.{filled_says, formed_says}
 use Rattle.book.proofs.SeekLaws.{found_alike, not_older, not_nowhere}
 use Rattle.book.proofs.EntriesLaws.{entries_count, book_whole, rules_append, rules_one}
 use Rattle.book.proofs.EntriesLaws.{first_size, first_distance, entry_for, onto, onto_last, rules_are, rules_long, newest_are}
@@ -94,54 +88,26 @@ grown_is b number rule w =
     moved : moved_of b (directory_in b) (length rule + 8) (count_in b) ≡ directory_of (after_rules (count_in b) + (length rule + 8)) (entries_in b)
     moved = moved_is b (directory_in b) (after_rules (count_in b)) (book_whole b w) (length rule + 8) (count_in b) (directory_in b) 0 ((formed_says b).0 w).full
 
--- the returns of `add`
+-- what `add` needs of a rule file that was looked at
+pub add_refused : (b : List ℕ) (number : ℕ) (rule out : List ℕ) {r : Refusal} → well_formed b ≡ true → Err r ≡ parts_of rule
+    → AddPromise b number rule out (Err r) out
+unfolding add_verdict
+add_refused b number rule out w e =
+    keeps_refused (first_more _ _ (rw w) ∙ first_hit (verdict_on rule) _ _ (parts_refused rule e))
 
-module _ (b : List ℕ) (number : ℕ) (rule out : List ℕ) {t : Bool} (well : t ≡ well_formed b) where
-  pub add_bad : not t ≡ true → AddPromise b number rule out (Refused (Book 0)) out
-  unfolding add_verdict
-  add_bad h = keeps_refused (first_hit _ _ (Book 0) (rw (sym well ∙ not-true t h)))
+pub file_short : (rule : List ℕ) {p : Contents} → Ok p ≡ parts_of rule → length rule < 60000
+file_short rule e = omega (arith, (sound_parts rule e).short)
 
-  module _ (good : not t ≡ false) where
-    formed_is : well_formed b ≡ true
-    formed_is = sym well ∙ not-false t good
-
-    pub add_long : 2 ≤ length b
-    add_long = formed_long b formed_is
-
-    pub add_fits : {n : ℕ} → n ≡ count_in b → 8 * n + 2 ≤ length b
-    add_fits e = formed_fits b formed_is e
-
-    module _ {p : Contents} (looked : p ≡ parts_of rule) where
-      pub add_file : {r : Refusal} → p.verdict ≡ Unsound r → AddPromise b number rule out (Refused r) out
-      unfolding add_verdict
-      add_file {r} q =
-          keeps_refused (first_more _ _ (rw formed_is) ∙ first_hit (verdict_on rule) _ r (sym (parts_verdict rule looked) ∙ q))
-
-      module _ (sound : p.verdict ≡ Sound) where
-        pub file_short : length rule < 60000
-        file_short = omega (arith, (sound_parts rule looked sound).short)
-
-        module _ {n : ℕ} (e : n ≡ count_in b) where
-          last_verdict : add_verdict b rule ≡ refuse_if (leb 1024 n) Full
-          unfolding add_verdict
-          last_verdict =
-              first_more _ _ (rw formed_is) ∙ first_more (verdict_on rule) _ (sym (parts_verdict rule looked) ∙ sound)
-              ∙ first_one (refuse_if (leb 1024 (count_in b)) Full) ∙ rw (← e)
-
-          pub add_full : 1024 ≤ n → AddPromise b number rule out (Refused Full) out
-          add_full h = keeps_refused (last_verdict ∙ rw (le-leb 1024 n h))
-
-          pub add_put : {w : Written} {out' : List ℕ} → n < 1024 → PutPromise Sound (grown b number rule) out w out' → AddPromise b number rule out w out'
-          add_put h q = rw (last_verdict, lt-leb 1024 n h, ← grown_is b number rule formed_is) q
+pub ruleset adding = (parts_refused, parts_sound, file_short, grown_is)
 
 -- a book with room for one rule more, and what the new one is to it
 
 pub record Open (b rule : List ℕ) : Type 0 where
   pub formed : well_formed b ≡ true
-  pub sound : verdict_on rule ≡ Sound
+  pub sound : verdict_on rule ≡ Ok tt
   pub room : count_in b < 1024
 
-pub add_open : (b rule : List ℕ) → add_verdict b rule ≡ Sound → Open b rule
+pub add_open : (b rule : List ℕ) → add_verdict b rule ≡ Ok tt → Open b rule
 unfolding add_verdict
 add_open b rule e =
     let x = (first_sound _ _).0 e in
@@ -164,7 +130,7 @@ module _ (b : List ℕ) (number : ℕ) (rule : List ℕ) (l : List Filed) (is : 
 
   pub added_book : IsBookOf (with_rule b number rule) (entries_in b ++ (x ∷ []))
   added_book =
-      let short = (sound_parts rule {p = parts_of rule} refl (parts_verdict rule {p = parts_of rule} refl ∙ o.sound)).short in
+      let short = (sound_file rule o.sound).framed.short in
       record {
         few = let r = o.room in rw (length-append (entries_in b) (x ∷ []), entries_count b) (omega arith);
         kept = keepable_last (entries_in b) x (rw (entries_are is) is.kept) (record { numbered = numbered; short = omega arith });
@@ -196,7 +162,7 @@ module _ (b : List ℕ) (number : ℕ) (rule : List ℕ) (l : List Filed) (is : 
   old_long : length (take (directory_in b) b) ≡ directory_in b
   old_long = rw (← rules_are b o.formed) (rules_long b o.formed)
 
-  sought_older : (age : ℕ) → sought_in (with_rule b number rule) number (age + 1) ≡ seek number age Older (newest_first b)
+  sought_older : (age : ℕ) → sought_in (with_rule b number rule) number (age + 1) ≡ seek number age (Err Missing) (newest_first b)
   unfolding sought_in seek
   sought_older age =
       let q : age + 1 - 1 ≡ age = omega arith in
@@ -212,21 +178,21 @@ module _ (b : List ℕ) (number : ℕ) (rule : List ℕ) (l : List Filed) (is : 
         bytes = rw (added_parts.1, drop_at (take (directory_in b) b) (rule ++ added_parts.0) (directory_in b) old_long)
             (take_at rule added_parts.0 (length rule) refl);
         older = λ age start size. rw (sought_older age) (
-          found_alike number age start size Older Nowhere not_older not_nowhere (newest_first b),
-          found_alike number age start size Nowhere Older not_nowhere not_older (newest_first b),
+          found_alike number age start size (Err Missing) (Ok None) not_older not_nowhere (newest_first b),
+          found_alike number age start size (Ok None) (Err Missing) not_nowhere not_older (newest_first b),
         );
         others = λ other age ne. rw (newest_added, ne_eqb number other ne);
         unchanged = rw added_parts.1 (take_at (take (directory_in b) b) (rule ++ added_parts.0) (directory_in b) old_long);
       }
 
 -- what a call that was done leaves at the front of the output
-pub add_done : (b : List ℕ) (number : ℕ) (rule out : List ℕ) (n : ℕ) (out' : List ℕ) → AddPromise b number rule out (Done n) out'
+pub add_done : (b : List ℕ) (number : ℕ) (rule out : List ℕ) (n : ℕ) (out' : List ℕ) → AddPromise b number rule out (Ok n) out'
     → (Open b rule) × (take n out' ≡ with_rule b number rule)
 add_done b number rule out n out' p =
     let put = put_done (add_verdict b rule) (with_rule b number rule) out n out' p in
     (add_open b rule put.sound, put.front)
 
-pub add_adds : (b : List ℕ) (number : ℕ) (rule out : List ℕ) (n : ℕ) (out' : List ℕ) → Bytes b → number < 256 → AddPromise b number rule out (Done n) out'
+pub add_adds : (b : List ℕ) (number : ℕ) (rule out : List ℕ) (n : ℕ) (out' : List ℕ) → Bytes b → number < 256 → AddPromise b number rule out (Ok n) out'
     → Adds b number rule (take n out')
 add_adds b number rule out n out' bytes numbered p =
     let d = add_done b number rule out n out' p in

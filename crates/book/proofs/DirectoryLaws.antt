@@ -3,62 +3,54 @@
 use Prim.Native.Nat.{ℕ, zero, suc, ◌+◌, ◌-◌, ◌*◌, ◌^◌, ◌≤◌, ◌<◌}
 use native.Mathlib.Omega.{arith}
 use native.Mathlib.Nat.{le_of_suc-le-suc}
-use borrow.Author.Tests.{eq-eqb, ne_eqb, lt-leb, le-leb}
-use mathlib.Core.Path.{◌≡◌, sym, ◌∙◌}
-use mathlib.Core.Bool.{Bool, true, false, ◌&&◌}
-use mathlib.Core.List.{List}
+use borrow.Author.Tests.{le-leb}
+use mathlib.Core.Path.{◌≡◌}
+use mathlib.Core.Bool.{true, ◌&&◌}
+use mathlib.Core.List.{List, []}
 use lib.ListN.{length, get_or, take, drop, length-drop}
 use lib.Seq.{length-take-le, take_all}
 use lib.Dec.{eqb}
-use mir.Val.{Fits}
-use mir.Syntax.{w64}
 use Rattle.octets.specs.Numbers.{Bytes, value_of}
-use Rattle.octets.proofs.NumberLaws.{value_of_part, value_of_lt, bytes_take, bytes_drop}
 use Rattle.octets.proofs.ListLaws.{tail_part}
+use Rattle.octets.proofs.NumberLaws.{value_of_part, value_of_lt, bytes_take, bytes_drop}
 use Rattle.rule.proofs.BoolLaws.{Says, and_says, eq_says, le_says, itself, in_words}
 use Rattle.book.specs.Book.{after_rules}
-use Rattle.book.specs.Directory.{spare_at, length_at, distance_at, count_in, directory_in, filled, well_formed}
+use Rattle.book.proofs.ChunkLaws.{spare_read, length_read, distance_read}
+use Rattle.book.specs.Directory.{AreEntries, spare_at, length_at, distance_at, count_in, directory_in, filled, well_formed}
 
 -- what the bytes say
 
-pub part_is : (b : List ℕ) → Bytes b → (width a e : ℕ) → e ≡ a + width → e ≤ length b → width ≤ 8 → {x : ℕ}
-    → x ≡ value_of (take 8 (take (e - a) (drop a b))) → (x ≡ value_of (take width (drop a b))) × (x < 256 ^ width)
-part_is b bytes width a e q h w is =
-    let k : e - a ≡ width = omega arith in
-    let n : length (take width (drop a b)) ≡ width = length-take-le width (drop a b) (rw length-drop (omega arith)) in
-    let v = rw (k, value_of_part width (drop a b) w) at is in
-    (v, rw v (rw n at (value_of_lt (take width (drop a b)) (bytes_take width (drop a b) (bytes_drop a b bytes)))))
+pub part_is : (b : List ℕ) → Bytes b → (at width : ℕ) → at + width ≤ length b → width ≤ 4 → {x : ℕ}
+    → x ≡ value_of (take 8 (take (at + width - at) (drop at b))) → (x ≡ value_of (take width (drop at b))) × (x < 256 ^ width)
+part_is b bytes at width h w is =
+    let k : at + width - at ≡ width = omega arith in
+    let n : length (take width (drop at b)) ≡ width = length-take-le width (drop at b) (rw length-drop (omega arith)) in
+    let v = rw (k, value_of_part width (drop at b) (omega arith)) at is in
+    (v, rw v (rw n at (value_of_lt (take width (drop at b)) (bytes_take width (drop at b) (bytes_drop at b bytes)))))
 
-pub count_is : (b : List ℕ) (x : ℕ) → 2 ≤ length b → x ≡ value_of (take 8 (take (length b - (length b - 2)) (drop (length b - 2) b))) → x ≡ count_in b
+pub count_is : (b : List ℕ) (end : ℕ) → end + 2 ≡ length b → value_of (take 8 (take (length b - end) (drop end b))) ≡ count_in b
 unfolding count_in
-count_is b x h e = e ∙ rw (tail_part (length b - 2) b, take_all 8 (drop (length b - 2) b) (rw length-drop (omega arith)))
+count_is b end h =
+    let e : length b - 2 ≡ end = omega arith in
+    rw (tail_part end b, e, take_all 8 (drop end b) (rw length-drop (omega arith)))
 
 -- the walk over the entries
 
-filled_step : (b : List ℕ) (end left at start : ℕ) → 0 < left
-    → filled b end left at start
-    ≡ (eqb (spare_at b at) 0 && (eqb (distance_at b at + start) (length b) && filled b end (left - 1) (at + 8) (start + length_at b at)))
-unfolding filled
-filled_step b end zero at start h = absurd (omega arith)
-filled_step b end (suc n) at start h = let q : suc n - 1 ≡ n = omega arith in rw q
-
-module _ (b : List ℕ) (end left at start : ℕ) {r : Bool} (inv : filled b end left at start ≡ r) where
-  module _ (some : 0 < left) where
-    pub spare_bad : (get_or b (at + 1) 0 ≡ 0 → ⊥) → false ≡ r
-    spare_bad bad = sym (filled_step b end left at start some ∙ rw (ne_eqb (get_or b (at + 1) 0) 0 bad)) ∙ inv
-
-    module _ (spare : get_or b (at + 1) 0 ≡ 0) {x : ℕ} (is : x ≡ distance_at b at) where
-      pub distance_bad : (x + start ≡ length b → ⊥) → false ≡ r
-      distance_bad bad =
-          sym (filled_step b end left at start some ∙ rw (eq-eqb (get_or b (at + 1) 0) 0 spare, ← is, ne_eqb (x + start) (length b) bad)) ∙ inv
-
-      pub filled_more : {y : ℕ} → x + start ≡ length b → y ≡ length_at b at → filled b end (left - 1) (at + 8) (start + y) ≡ r
-      filled_more e f =
-          sym (filled_step b end left at start some ∙ rw (eq-eqb (get_or b (at + 1) 0) 0 spare, ← is, eq-eqb (x + start) (length b) e, ← f)) ∙ inv
-
-  pub filled_last : left ≤ 0 → eqb start end ≡ r
+module _ (b : List ℕ) (start : ℕ) (entries : List (List ℕ)) (are : AreEntries b start entries) where
+  pub filled_step : (at i : ℕ) → i < length entries
+      → filled b start (length entries - i) (start + 8 * i) at
+      ≡ (eqb (get_or (get_or entries i []) 1 0) 0 && (eqb (distance_at (get_or entries i []) 0 + at) (length b)
+      && filled b start (length entries - (i + 1)) (start + 8 * (i + 1)) (at + length_at (get_or entries i []) 0)))
   unfolding filled
-  filled_last h = let q : left ≡ 0 = omega arith in rw q at inv
+  filled_step at i h =
+      let e = are.each i h in
+      let p : length entries - i ≡ suc (length entries - (i + 1)) = omega arith in
+      let q : start + 8 * (i + 1) ≡ start + 8 * i + 8 = omega arith in
+      rw (p, q, spare_read b (start + 8 * i) _ e, distance_read b (start + 8 * i) _ e, length_read b (start + 8 * i) _ e)
+
+  pub filled_last : (at i : ℕ) → length entries ≤ i → filled b start (length entries - i) (start + 8 * i) at ≡ eqb at start
+  unfolding filled
+  filled_last at i h = let q : length entries - i ≡ 0 = omega arith in rw q
 
 -- what a walk that comes through says
 
@@ -108,29 +100,12 @@ formed_says b =
     (λ p. record { long = p.0; few = p.1.0; fits = p.1.1.0; full = p.1.1.1 })
     (λ f. (f.long, (f.few, (f.fits, f.full))))
 
-module _ (b : List ℕ) where
-  pub too_short : length b < 2 → false ≡ well_formed b
-  unfolding well_formed
-  too_short h = rw (lt-leb 2 (length b) h)
-
-  module _ (long : 2 ≤ length b) {n : ℕ} (is : n ≡ count_in b) where
-    pub too_many : 1024 < n → false ≡ well_formed b
-    unfolding well_formed
-    too_many h = rw (le-leb 2 (length b) long, ← is, lt-leb n 1024 h)
-
-    module _ (few : n ≤ 1024) where
-      pub too_wide : length b < 8 * n + 2 → false ≡ well_formed b
-      unfolding well_formed
-      too_wide h = rw (le-leb 2 (length b) long, ← is, le-leb n 1024 few, lt-leb (8 * n + 2) (length b) h)
-
-      pub formed_as : 8 * n + 2 ≤ length b → {r : Bool} → r ≡ filled b (length b - (8 * n + 2)) n (length b - (8 * n + 2)) 0 → r ≡ well_formed b
-      unfolding well_formed
-      formed_as h q = q ∙ rw (le-leb 2 (length b) long, ← is, le-leb n 1024 few, le-leb (8 * n + 2) (length b) h)
-
--- the distance of the entry looked at lies in the book
-pub begins_here : (b : List ℕ) (d n left x size : ℕ) → ((i : ℕ) → i < n → distance_at b (d + 8 * i) ≤ length b)
-    → 0 < left → left ≤ n → size ≡ length b → x ≡ distance_at b (d + 8 * (left - 1)) → x ≤ size
-begins_here b d n left x size all some few e is = omega (arith, all (left - 1) (omega arith))
+pub formed_as : (b : List ℕ) (count start : ℕ) → count ≡ count_in b → count ≤ 1024 → start + (8 * count + 2) ≡ length b
+    → well_formed b ≡ filled b start count start 0
+unfolding well_formed
+formed_as b count start is few ends =
+    let e : length b - (8 * count + 2) ≡ start = omega arith in
+    rw (le-leb 2 (length b) (omega arith), ← is, le-leb count 1024 few, le-leb (8 * count + 2) (length b) (omega arith), e)
 
 module _ (b : List ℕ) (w : well_formed b ≡ true) where
   formed : Formed b
@@ -138,25 +113,3 @@ module _ (b : List ℕ) (w : well_formed b ≡ true) where
 
   pub placed : (i : ℕ) → i < count_in b → Placed b (directory_in b) (directory_in b + 8 * i)
   placed = filled_placed b (directory_in b) (count_in b) (directory_in b) 0 formed.full
-
-  pub formed_long : 2 ≤ length b
-  formed_long = formed.long
-
-  module _ {n : ℕ} (is : n ≡ count_in b) where
-    pub formed_fits : 8 * n + 2 ≤ length b
-    formed_fits = rw is formed.fits
-
-    pub formed_few : n ≤ 1024
-    formed_few = rw is formed.few
-
-    pub formed_mul : Fits w64 (8 * n)
-    formed_mul = omega (arith, formed_few)
-
-    pub formed_add : Fits w64 (8 * n + 2)
-    formed_add = omega (arith, formed_few)
-
-    pub formed_whole : length b - (8 * n + 2) + (8 * n + 2) ≡ length b
-    formed_whole = omega (arith, formed_fits)
-
-    pub formed_begins : (i : ℕ) → i < n → distance_at b (length b - (8 * n + 2) + 8 * i) ≤ length b
-    formed_begins i h = rw is (placed i (rw is at h)).begins

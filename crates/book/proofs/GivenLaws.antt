@@ -12,12 +12,11 @@ use mathlib.Core.Logic.{◌↔◌, inr}
 use lib.Dec.{eqb}
 use lib.ListN.{length}
 use denote.Ref.{Bor}
+use Rattle.std.specs.Prelude.{Ok, Err}
 use Rattle.rule.specs.Refusals.{among, or_else, first_of, refuse_if, verdict_told}
 use Rattle.rule.specs.Given.{Table, NoRow, Given, Ends}
 use Rattle.rule.specs.declared.Refusal.{Refusal}
 use Rattle.rule.specs.declared.Refusal.TheVariants.{Book, Missing, Full}
-use Rattle.rule.specs.declared.Verdict.{Verdict}
-use Rattle.rule.specs.declared.Verdict.TheVariants.{Sound, Refused as Unsound}
 use Rattle.rule.proofs.BoolLaws.{clash, not_so, so, le_says, Fails, fails_say}
 use Rattle.rule.proofs.NumberLaws.{among_says, among_ahead, Gives}
 use Rattle.rule.proofs.RefusalLaws.{not_both}
@@ -26,22 +25,20 @@ use Rattle.rule.proofs.TableLaws.{Within, Answers, Decides, decided, end, then, 
 use Rattle.rulefile.specs.Given.{Reading, reading_order}
 use Rattle.rulefile.specs.Reading.{verdict_on}
 use Rattle.rule.specs.Putting.{written_told, put_order}
-use Rattle.rule.specs.declared.Written.{Written}
-use Rattle.rule.specs.declared.Written.TheVariants.{Done, Refused as Unwritten}
 use Rattle.rule.proofs.PutLaws.{put_gives, put_does, put_ends}
 use Rattle.rulefile.proofs.GivenLaws.{file_within, file_answers}
 use Rattle.book.specs.Book.{Filed, after_rules}
 use Rattle.book.specs.Directory.{spare_at, length_at, distance_at, count_in, directory_in, filled, well_formed, entries_in}
-use Rattle.book.specs.Finding.{sought_in, pick, books_verdict, unless, lookup_of, verdict_by, PartBy, FindPromise, times, InForce}
+use Rattle.book.specs.Finding.{Looked, sought_in, pick, books_verdict, unless, lookup_of, verdict_by, PartBy, FindPromise, times, InForce}
 use Rattle.book.specs.Finding.{NotThere, in_neither, not_in_job, not_in_office, Finds, in_job, in_office, not_there}
 use Rattle.book.specs.Adding.{with_rule, add_verdict, AddPromise}
 use Rattle.book.specs.Given.{lengths_to, Fills, BadBook, no_count, many, wide, spare, unfilled, find_order, Finding, bad_job, bad_office, at_18}
 use Rattle.book.specs.Given.{add_order, AddRow, at_17, file, at_26, Adding}
-use Rattle.book.specs.declared.Lookup.{Lookup}
-use Rattle.book.specs.declared.Lookup.TheVariants.{Job, Office, Refused}
+use Rattle.book.specs.declared.Lookup.TheVariants.{Job, Office}
 use Rattle.book.proofs.DirectoryLaws.{filled_says, Formed, formed_says}
 use Rattle.book.proofs.MeaningLaws.{force_counts}
 use Rattle.book.proofs.FindLaws.{BothFormed, books_formed, look_picks, look_finds}
+use Rattle.rule.specs.Verdict.{Verdict, Written}
 
 -- 17 of one book
 
@@ -168,14 +165,14 @@ module _ (job office : List ℕ) (number age : ℕ) where
   decides_17 x = (by (well_formed job) (well_formed office) refl refl, from)
     where
       by : (s t : Bool) → well_formed job ≡ s → well_formed office ≡ t
-          → or_else (refuse_if (not s) (Book 0)) (refuse_if (not t) (Book 1)) ≡ Unsound x → rows 17 x
+          → or_else (refuse_if (not s) (Book 0)) (refuse_if (not t) (Book 1)) ≡ Err x → rows 17 x
       by false t p q e = let k : Book 0 ≡ x = cc in subst (λ (y : Refusal). rows 17 y) k (bad_job ((formed_fails job).0 p))
       by true false p q e =
           let k : Book 1 ≡ x = cc in
           subst (λ (y : Refusal). rows 17 y) k (bad_office (λ b. clash p ((formed_fails job).1 b)) ((formed_fails office).0 q))
       by true true p q e = not_both refl e
 
-      from : {y : Refusal} → rows 17 y → books_verdict job office ≡ Unsound y
+      from : {y : Refusal} → rows 17 y → books_verdict job office ≡ Err y
       from (bad_job h) = rw ((formed_fails job).1 h)
       from (bad_office g h) = rw (so (well_formed job) (λ q. g ((formed_fails job).0 q)), (formed_fails office).1 h)
 
@@ -183,7 +180,7 @@ module _ (job office : List ℕ) (number age : ℕ) where
   there : {start size : ℕ} {l : List Filed} → InForce l number age start size → times number l ≤ age → ⊥
   there f h = omega (arith, force_counts f)
 
-  decides_18 : books_verdict job office ≡ Sound → Decides rows 18 (verdict_by (pick (sought_in job number age) (sought_in office number age)))
+  decides_18 : books_verdict job office ≡ Ok tt → Decides rows 18 (verdict_by (pick (sought_in job number age) (sought_in office number age)))
   decides_18 s x = (to _ finds, from)
     where
       w : BothFormed job office
@@ -192,22 +189,22 @@ module _ (job office : List ℕ) (number age : ℕ) where
       finds : Finds (entries_in job) (entries_in office) number age (pick (sought_in job number age) (sought_in office number age))
       finds = rw (look_picks job office w.job_formed w.office_formed number age) at (look_finds job office w.job_formed w.office_formed number age)
 
-      to : (r : Lookup) → Finds (entries_in job) (entries_in office) number age r → verdict_by r ≡ Unsound x → rows 18 x
-      to (Job s z) (in_job f) e = not_both refl e
-      to (Office s z) (in_office n f) e = not_both refl e
-      to (Refused y) (not_there h) e = let k : Missing ≡ x = cc in subst (λ (y : Refusal). rows 18 y) k (at_18 h)
+      to : (r : Looked) → Finds (entries_in job) (entries_in office) number age r → verdict_by r ≡ Err x → rows 18 x
+      to (Ok (Job s z)) (in_job f) e = not_both refl e
+      to (Ok (Office s z)) (in_office n f) e = not_both refl e
+      to (Err y) (not_there h) e = let k : Missing ≡ x = cc in subst (λ (y : Refusal). rows 18 y) k (at_18 h)
 
-      miss : (r : Lookup) → Finds (entries_in job) (entries_in office) number age r
-          → NotThere (entries_in job) (entries_in office) number age → verdict_by r ≡ Unsound Missing
-      miss (Job s z) (in_job f) (in_neither p q) = absurd (there f (omega arith))
-      miss (Job s z) (in_job f) (not_in_job p q) = absurd (there f q)
-      miss (Job s z) (in_job f) (not_in_office p q r) = absurd (there f (omega arith))
-      miss (Office s z) (in_office n f) (in_neither p q) = absurd (there f (omega arith))
-      miss (Office s z) (in_office n f) (not_in_job p q) = absurd (omega arith)
-      miss (Office s z) (in_office n f) (not_in_office p q r) = absurd (there f r)
-      miss (Refused y) (not_there h) n = refl
+      miss : (r : Looked) → Finds (entries_in job) (entries_in office) number age r
+          → NotThere (entries_in job) (entries_in office) number age → verdict_by r ≡ Err Missing
+      miss (Ok (Job s z)) (in_job f) (in_neither p q) = absurd (there f (omega arith))
+      miss (Ok (Job s z)) (in_job f) (not_in_job p q) = absurd (there f q)
+      miss (Ok (Job s z)) (in_job f) (not_in_office p q r) = absurd (there f (omega arith))
+      miss (Ok (Office s z)) (in_office n f) (in_neither p q) = absurd (there f (omega arith))
+      miss (Ok (Office s z)) (in_office n f) (not_in_job p q) = absurd (omega arith)
+      miss (Ok (Office s z)) (in_office n f) (not_in_office p q r) = absurd (there f r)
+      miss (Err y) (not_there h) n = refl
 
-      from : {y : Refusal} → rows 18 y → verdict_by (pick (sought_in job number age) (sought_in office number age)) ≡ Unsound y
+      from : {y : Refusal} → rows 18 y → verdict_by (pick (sought_in job number age) (sought_in office number age)) ≡ Err y
       from (at_18 h) = miss _ finds h
 
   find_answers : Answers rows find_order (verdict_by (lookup_of job office number age))
@@ -216,20 +213,19 @@ module _ (job office : List ℕ) (number age : ℕ) where
       subst (λ (v : Verdict). Answers rows find_order v) (told (books_verdict job office) _)
       (then _ decides_17 (λ s. then _ (decides_18 s) (λ _. end)))
     where
-      told : (v : Verdict) (r : Lookup) → or_else v (or_else (verdict_by r) Sound) ≡ verdict_by (unless v r)
-      told Sound (Job s z) = refl
-      told Sound (Office s z) = refl
-      told Sound (Refused x) = refl
-      told (Unsound x) r = refl
+      told : (v : Verdict) (r : Looked) → or_else v (or_else (verdict_by r) (Ok tt)) ≡ verdict_by (unless v r)
+      told (Ok _) (Ok x) = refl
+      told (Ok _) (Err x) = refl
+      told (Err x) r = refl
 
   -- a refusal is given exactly when its row holds and no earlier one does, and none exactly when no row holds
-  pub find_gives : (x : Refusal) → (verdict_by (lookup_of job office number age) ≡ Unsound x) ↔ Given rows x find_order
+  pub find_gives : (x : Refusal) → (verdict_by (lookup_of job office number age) ≡ Err x) ↔ Given rows x find_order
   find_gives = find_answers.gives
 
   pub find_numbers : Gives find_order (verdict_by (lookup_of job office number age))
   find_numbers = numbers find_within find_answers
 
-  pub find_sound : (verdict_by (lookup_of job office number age) ≡ Sound) ↔ NoRow rows
+  pub find_sound : (verdict_by (lookup_of job office number age) ≡ Ok tt) ↔ NoRow rows
   find_sound = sound_exactly find_within find_answers
 
 -- how a lookup ends: a refused one hands back an empty part
@@ -239,10 +235,9 @@ find_ends job office number age part p =
     verdict_ends (verdict_by (lookup_of job.now office.now number age)) (find_sound job.now office.now number age).0
     (λ x e. ((find_gives job.now office.now number age x).0 e, empty (lookup_of job.now office.now number age) x p e))
   where
-    empty : (r : Lookup) (x : Refusal) → PartBy r job office part → verdict_by r ≡ Unsound x → part.now ≡ []
-    empty (Job s z) x q e = not_both refl e
-    empty (Office s z) x q e = not_both refl e
-    empty (Refused y) x q e = q.bytes
+    empty : (r : Looked) (x : Refusal) → PartBy r job office part → verdict_by r ≡ Err x → part.now ≡ []
+    empty (Ok y) x q e = not_both refl e
+    empty (Err y) x q e = q.bytes
 
 -- adding
 
@@ -275,10 +270,10 @@ module _ (b rule : List ℕ) where
       says_26 y (at_26 h) = (refl, h)
 
 module _ (b : List ℕ) (number : ℕ) (rule out : List ℕ) {w : Written} {out' : List ℕ} (kept : AddPromise b number rule out w out') where
-  pub add_gives : (x : Refusal) → (w ≡ Unwritten x) ↔ Given (Adding b number rule (length out)) x (put_order add_order)
+  pub add_gives : (x : Refusal) → (w ≡ Err x) ↔ Given (Adding b number rule (length out)) x (put_order add_order)
   add_gives = put_gives (add_within b rule) refl (add_answers b rule) kept
 
-  pub add_does : (n : ℕ) → (w ≡ Done n) ↔ (NoRow (Adding b number rule (length out)) × (n ≡ length (with_rule b number rule)))
+  pub add_does : (n : ℕ) → (w ≡ Ok n) ↔ (NoRow (Adding b number rule (length out)) × (n ≡ length (with_rule b number rule)))
   add_does = put_does (add_within b rule) refl (add_answers b rule) kept
 
   -- how adding ends: a refused call leaves the output as it was

@@ -1,4 +1,5 @@
 -- the directory: the walk over it, the search in it, what its entries hold
+pub mod ChunkLaws
 pub mod DirectoryLaws
 pub mod SeekLaws
 pub mod EntriesLaws

@@ -10,17 +10,17 @@ use mathlib.Core.List.{List, [], ◌∷◌, ◌++◌, append_assoc}
 use lib.Dec.{eqb}
 use lib.ListN.{length, take, drop, length-append, take-append-drop}
 use lib.Seq.{take_at, drop_at}
+use Rattle.std.specs.Prelude.{Some, None, Ok, Err}
+use Rattle.rule.specs.declared.Refusal.TheVariants.{Missing}
 use Rattle.book.specs.Book.{Filed, rules_of}
 use Rattle.book.specs.Directory.{directory_in, well_formed, entries_in}
-use Rattle.book.specs.Finding.{Entry, seek, sought_in, times, InForce}
-use Rattle.book.specs.declared.Sought.{Sought}
-use Rattle.book.specs.declared.Sought.TheVariants.{At, Older, Nowhere}
+use Rattle.book.specs.Finding.{Sought, Entry, seek, sought_in, times, InForce}
 use Rattle.book.proofs.EntriesLaws.{entry_for, onto, rules_append, rules_are, newest_are}
 
 -- what is answered past so many entries with the number
 past : ℕ → Sought → Sought
 past zero none = none
-past (suc k) none = Older
+past (suc k) none = Err Missing
 
 -- in the entries of a list, newest first, that stand before others: none so old, so the search goes on in the others
 seek_past : (number : ℕ) (l : List Filed) (start age : ℕ) (none : Sought) (others : List Entry) → times number l ≤ age
@@ -46,7 +46,7 @@ record Hit (number : ℕ) (l : List Filed) (start age : ℕ) (found : Sought) : 
   begins : ℕ
   size : ℕ
   force : InForce l number age begins size
-  found_is : found ≡ At (start + begins) size
+  found_is : found ≡ Ok (Some (start + begins, size))
 
 seek_hit : (number : ℕ) (l : List Filed) (start age : ℕ) (none : Sought) (others : List Entry) → age < times number l
     → Hit number l start age (seek number age none (onto start l others))
@@ -92,28 +92,28 @@ seek_hit number (x ∷ l) start age none others h =
           size = length x.rule;
           force = record { before = []; entry = x; after = l; is = refl; numbered = eqb-true x.number number e; later = q; begins = refl; long = refl };
           found_is = seek_past number l (start + length x.rule) age none (entry_for x start ∷ others) b
-              ∙ rw (e, eq-eqb (age - times number l) 0 z) (ap (λ (k : ℕ). At k (length x.rule)) s);
+              ∙ rw (e, eq-eqb (age - times number l) 0 z) (ap (λ (k : ℕ). Ok (Some (k, length x.rule))) s);
         }
     here false e h b = absurd (omega arith)
 
 -- what a search in one book means, of the list that it is the book of
 pub data Means (l : List Filed) (number age : ℕ) : Sought → Type 0 where
-  in_force : {start size : ℕ} → InForce l number age start size → Means l number age (At start size)
-  too_old : 0 < times number l → times number l ≤ age → Means l number age Older
-  nowhere : times number l ≡ 0 → Means l number age Nowhere
+  in_force : {start size : ℕ} → InForce l number age start size → Means l number age (Ok (Some (start, size)))
+  too_old : 0 < times number l → times number l ≤ age → Means l number age (Err Missing)
+  nowhere : times number l ≡ 0 → Means l number age (Ok None)
 
 pub sought_means : (b : List ℕ) (number age : ℕ) → well_formed b ≡ true → Means (entries_in b) number age (sought_in b number age)
 unfolding sought_in seek past
 sought_means b number age w =
     elim (dec_lt age (times number (entries_in b))) [
       | yes h ↦
-          let r = seek_hit number (entries_in b) 0 age Nowhere [] h in
+          let r = seek_hit number (entries_in b) 0 age (Ok None) [] h in
           let z : 0 + r.begins ≡ r.begins = omega arith in
           rw (newest_are b w, r.found_is, z) (in_force r.force)
-      | no h ↦ rw (newest_are b w, seek_past number (entries_in b) 0 age Nowhere [] (omega arith)) (by (times number (entries_in b)) refl (omega arith))
+      | no h ↦ rw (newest_are b w, seek_past number (entries_in b) 0 age (Ok None) [] (omega arith)) (by (times number (entries_in b)) refl (omega arith))
     ]
   where
-    by : (k : ℕ) → times number (entries_in b) ≡ k → k ≤ age → Means (entries_in b) number age (seek number (age - k) (past k Nowhere) [])
+    by : (k : ℕ) → times number (entries_in b) ≡ k → k ≤ age → Means (entries_in b) number age (seek number (age - k) (past k (Ok None)) [])
     by zero e h = nowhere e
     by (suc k) e h = too_old (rw e (omega arith)) (rw e h)
 

@@ -5,10 +5,10 @@ use Prim.Native.Nat.{ℕ}
 use contract.Lifetimes.{Lfts}
 use denote.Ref.{Bor}
 use denote.Triple.Entry.{Args}
+use Rattle.std.specs.Prelude.{Ok, Err}
 use Rattle.contracts.specs.Contract.{Call, OneAnswer}
-use Rattle.book.specs.Finding.{PartOf, PartBy, lookup_of}
-use Rattle.book.specs.declared.Lookup.{Lookup}
-use Rattle.book.specs.declared.Lookup.TheVariants.{Job, Office, Refused}
+use Rattle.book.specs.Finding.{Looked, PartOf, PartBy, lookup_of}
+use Rattle.book.specs.declared.Lookup.TheVariants.{Job, Office}
 use Rattle.book.specs.contracts
 use Rattle.book.proofs
 
@@ -23,11 +23,11 @@ find_one_answer κs a x y = by (lookup_of a.0.now a.1.0.now a.1.1.0 a.1.1.1.0) x
     same : (whole p q : Bor (List ℕ)) (start size : ℕ) → PartOf whole start size p → PartOf whole start size q → (p.ref_ptr ≡ q.ref_ptr) × (p.now ≡ q.now)
     same whole p q start size s t = (λ i. ((s.block ∙ sym t.block) i, (s.place ∙ sym t.place) i), s.bytes ∙ sym t.bytes)
 
-    by : (r : Lookup) → PartBy r a.0 a.1.0 x.result → PartBy r a.0 a.1.0 y.result
+    by : (r : Looked) → PartBy r a.0 a.1.0 x.result → PartBy r a.0 a.1.0 y.result
         → (x.result.ref_ptr ≡ y.result.ref_ptr) × (x.result.now ≡ y.result.now)
-    by (Job start size) s t = same a.0 _ _ start size s t
-    by (Office start size) s t = same a.1.0 _ _ start size s t
-    by (Refused r) s t = same a.0 _ _ 0 0 s t
+    by (Ok (Job start size)) s t = same a.0 _ _ start size s t
+    by (Ok (Office start size)) s t = same a.1.0 _ _ start size s t
+    by (Err r) s t = same a.0 _ _ 0 0 s t
 
 pub add_one_answer : OneAnswer contracts.add.ended proofs.add.Reads.Learnt
 add_one_answer κs a x y = (x.told.answer ∙ sym y.told.answer, λ i. (tt, (tt, (tt, ((x.told.output ∙ sym y.told.output) i, tt)))))

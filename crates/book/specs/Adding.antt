@@ -1,18 +1,16 @@
 -- Adding a rule file to a book.
 -- Assumes nothing.
-use Rattle.std.specs.Prelude.{ℕ, ◌+◌, ◌-◌, ◌*◌, ◌≡◌, true, not, List, [], ◌∷◌, ◌++◌, ◌↔◌, length, take, drop, leb}
+use Rattle.std.specs.Prelude.{ℕ, ◌+◌, ◌-◌, ◌*◌, ◌≡◌, true, not, List, [], ◌∷◌, ◌++◌, ◌↔◌, length, take, drop, leb, Some, Ok}
 use Rattle.octets.specs.Numbers.{digits}
 use Rattle.rule.specs.Refusals.{refuse_if, first_of}
 use Rattle.rule.specs.declared.Refusal.TheVariants.{Book, Full}
-use Rattle.rule.specs.declared.Verdict.{Verdict}
 use Rattle.rule.specs.Putting.{PutPromise}
-use Rattle.rule.specs.declared.Written.{Written}
 use Rattle.rulefile.specs.Layout.{flat_up_to}
 use Rattle.rulefile.specs.Reading.{verdict_on}
 use Rattle.book.specs.Book.{filed, entry_of, after_rules, book_of}
 use Rattle.book.specs.Directory.{number_at, length_at, distance_at, count_in, directory_in, well_formed, entries_in}
 use Rattle.book.specs.Finding.{sought_in}
-use Rattle.book.specs.declared.Sought.TheVariants.{At}
+use Rattle.rule.specs.Verdict.{Verdict, Written}
 
 -- the book with one entry more
 abbrev pub with_rule : (b : List ℕ) (number : ℕ) (rule : List ℕ) → List ℕ
@@ -32,10 +30,10 @@ pub record Adds (b : List ℕ) (number : ℕ) (rule b' : List ℕ) : Type 0 wher
   pub formed : well_formed b' ≡ true
   pub entries : entries_in b' ≡ entries_in b ++ (filed number rule ∷ [])
   -- the number at age 0 is the added file
-  pub latest : sought_in b' number 0 ≡ At (directory_in b) (length rule)
+  pub latest : sought_in b' number 0 ≡ Ok (Some (directory_in b, length rule))
   pub bytes : take (length rule) (drop (directory_in b) b') ≡ rule
   -- at age a + 1 it is what age a was before, every other number is as before
-  pub older : (age start size : ℕ) → (sought_in b' number (age + 1) ≡ At start size) ↔ (sought_in b number age ≡ At start size)
+  pub older : (age start size : ℕ) → (sought_in b' number (age + 1) ≡ Ok (Some (start, size))) ↔ (sought_in b number age ≡ Ok (Some (start, size)))
   pub others : (other age : ℕ) → (number ≡ other → ⊥) → sought_in b' other age ≡ sought_in b other age
   -- and the bytes up to the old directory are unchanged
   pub unchanged : take (directory_in b) b' ≡ take (directory_in b) b

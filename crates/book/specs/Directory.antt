@@ -1,6 +1,6 @@
 -- What stands in the bytes of a book: its directory, whether the rules fill it, and the list that it is the book of.
 -- Assumes nothing.
-use Rattle.std.specs.Prelude.{ℕ, zero, suc, ◌+◌, ◌-◌, Bool, ◌&&◌, List, [], ◌∷◌, length, get_or, take, drop, leb, eqb}
+use Rattle.std.specs.Prelude.{ℕ, zero, suc, ◌+◌, ◌-◌, ◌*◌, ◌<◌, ◌≡◌, Bool, ◌&&◌, List, [], ◌∷◌, length, get_or, take, drop, leb, eqb}
 use Rattle.octets.specs.Numbers.{value_of}
 use Rattle.book.specs.Book.{Filed, filed, after_rules}
 
@@ -23,6 +23,10 @@ count_in b = value_of (drop (length b - 2) b)
 
 abbrev pub directory_in : List ℕ → ℕ
 directory_in b = length b - after_rules (count_in b)
+
+-- arrays of eight bytes that are the entries of the directory which begins at `start`
+pub record AreEntries (b : List ℕ) (start : ℕ) (entries : List (List ℕ)) : Type 0 where
+  pub each : (i : ℕ) → i < length entries → get_or entries i [] ≡ take 8 (drop (start + 8 * i) b)
 
 -- the rules of n entries from `at` on, in entry order: the first begins at `start`, each where the one before ends, the last ends at `end`
 unfoldable pub filled : List ℕ → (end n at start : ℕ) → Bool

@@ -1,7 +1,5 @@
--- what each return and each turn of a loop comes to
-pub mod BanLaws
+-- what the checks come to: their ends and turns, and all of them together
 pub mod CheckLaws
-pub mod LookLaws
 pub mod HeldLaws
 -- any two results that a promise allows are equal
 pub mod OneAnswer

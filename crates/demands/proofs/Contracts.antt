@@ -3,7 +3,6 @@
 -- Assumes nothing.
 use Prim.Native.Nat.{◌-◌}
 use mathlib.Core.Path.{◌≡◌}
-use mathlib.Core.List.{[]}
 use lib.ListN.{length, take}
 use Rattle.contracts.specs.Contract.{Keeps}
 use Rattle.octets.specs.Copies.{copied}
@@ -15,8 +14,8 @@ use Rattle.rule.specs.Sets.{those, has, including}
 use Rattle.rule.specs.Backward.{reaching}
 use Rattle.rule.specs.Reach.{place_of, target, with_moves, reached_within}
 use Rattle.rule.specs.Ways.{event_into}
-use Rattle.rule.specs.Drawing.{body}
-use Rattle.rule.specs.Operations.{mark_of, value_of, smallest_of}
+use Rattle.rule.specs.Drawing.{drawing_of}
+use Rattle.rule.specs.Operations.{mark_of, ByMark, value_of, smallest_of}
 use Rattle.rule.specs.Stopping.{stops_by}
 use Rattle.rule.specs.Refusals.{told_of, first_of}
 use Rattle.rule.specs.Refusals as paper
@@ -29,8 +28,7 @@ use Rattle.book.specs.Finding.{lookup_of, FindPromise}
 use Rattle.book.specs.Adding.{AddPromise}
 use Rattle.sheet.specs.Opening.{opened_of}
 use Rattle.making.specs.Making.{MakePromise}
-use Rattle.effects.specs.Effects.{fresh_run, answer_in, StorePromise, DumpPromise}
-use Rattle.effects.specs.declared.Turn.TheVariants.{Move}
+use Rattle.effects.specs.Effects.{fresh_run, taken_by, StorePromise, DumpPromise}
 use Rattle.rule.specs.declared.Operation.TheVariants.{Halt}
 use Rattle.monitor.specs.Fresh.{start_of}
 use Rattle.monitor.specs.Event.{EventPromise}
@@ -82,7 +80,7 @@ pub write_keeps : Keeps rulefile.write.ended rulefile_proofs.write.Reads.Learnt 
 write_keeps κs a x = x.told
 
 pub put_file_keeps : Keeps rulefile.put_file.ended rulefile_proofs.put_file.Reads.Learnt λ κs a r l.
-    FilePromise (parts a.0 a.1.0.now a.1.1.0.now a.1.1.1.0) a.1.1.1.1.0.now r l.1.1.1.1.0
+    FilePromise (parts a.0.now a.1.0) a.1.1.0.now r l.1.1.0
 put_file_keeps κs a x = x.told
 
 -- rules in books: looked up, added
@@ -125,7 +123,7 @@ events_keeps κs a x = x.told
 pub run_new_keeps : Keeps effects.Run.new.ended effects_proofs.Run.new.Reads.Learnt λ κs a r l. r ≡ fresh_run a.0
 run_new_keeps κs a x = x.told
 
-pub halt_keeps : Keeps effects.halt.ended effects_proofs.halt.Reads.Learnt λ κs a r l. r ≡ answer_in (Move Halt a.0) a.1.0.held
+pub halt_keeps : Keeps effects.halt.ended effects_proofs.halt.Reads.Learnt λ κs a r l. r ≡ taken_by Halt a.0 a.1.0.held
 halt_keeps κs a x = x.told
 
 pub store_keeps : Keeps effects.store.ended effects_proofs.store.Reads.Learnt λ κs a r l.
@@ -192,23 +190,22 @@ trailer_of_keeps κs a x = x.told
 pub put_trailer_keeps : Keeps trailer.put_trailer.ended trailer_proofs.put_trailer.Reads.Learnt λ κs a r l. l.0 ≡ copied (trailer_out a.1.0) a.0.now
 put_trailer_keeps κs a x = x.told
 
-pub check_body_keeps : Keeps checks.check_body.ended checks_proofs.check_body.Reads.Learnt λ κs a r l. r ≡ checked_of a.0 a.1.0.now a.1.1.0
+pub check_body_keeps : Keeps checks.check_body.ended checks_proofs.check_body.Reads.Learnt λ κs a r l. r ≡ checked_of (drawing_of a.0)
 check_body_keeps κs a x = x.told
 
-pub check_entries_keeps : Keeps checks.check_entries.ended checks_proofs.check_entries.Reads.Learnt λ κs a r l. r ≡ paper.entries (body a.0 a.1.0.now [])
+pub check_entries_keeps : Keeps checks.check_entries.ended checks_proofs.check_entries.Reads.Learnt λ κs a r l. r ≡ paper.entries (drawing_of a.0)
 check_entries_keeps κs a x = x.told
 
-pub check_members_keeps : Keeps checks.check_members.ended checks_proofs.check_members.Reads.Learnt λ κs a r l. r ≡ paper.members (body a.0 [] a.1.0)
+pub check_members_keeps : Keeps checks.check_members.ended checks_proofs.check_members.Reads.Learnt λ κs a r l. r ≡ paper.members (drawing_of a.0)
 check_members_keeps κs a x = x.told
 
-pub check_excess_keeps : Keeps checks.check_excess.ended checks_proofs.check_excess.Reads.Learnt λ κs a r l. r ≡ paper.excess (body a.0 [] a.1.0)
+pub check_excess_keeps : Keeps checks.check_excess.ended checks_proofs.check_excess.Reads.Learnt λ κs a r l. r ≡ paper.excess (drawing_of a.0)
 check_excess_keeps κs a x = x.told
 
-pub check_moves_keeps : Keeps checks.check_moves.ended checks_proofs.check_moves.Reads.Learnt λ κs a r l. r ≡ paper.moves (body a.0 a.1.0.now a.1.1.0)
+pub check_moves_keeps : Keeps checks.check_moves.ended checks_proofs.check_moves.Reads.Learnt λ κs a r l. r ≡ paper.moves (drawing_of a.0)
 check_moves_keeps κs a x = x.told
 
-pub check_stopped_keeps : Keeps checks.check_stopped.ended checks_proofs.check_stopped.Reads.Learnt λ κs a r l.
-    r ≡ paper.stopped (body a.0 a.1.0.now a.1.1.0)
+pub check_stopped_keeps : Keeps checks.check_stopped.ended checks_proofs.check_stopped.Reads.Learnt λ κs a r l. r ≡ paper.stopped (drawing_of a.0)
 check_stopped_keeps κs a x = x.told
 
 -- what is computed of a rule
@@ -217,17 +214,17 @@ pub value_keeps : Keeps operations.value.ended operations_proofs.value.Reads.Lea
 value_keeps κs a x = x.told
 
 pub operation_keeps : Keeps operations.operation.ended operations_proofs.operation.Reads.Learnt λ κs a r l.
-    r ≡ smallest_of (take a.1.0 a.0) a.1.1.0 a.1.1.1.0.0
+    r ≡ smallest_of a.0.now a.1.0 a.1.1.0.0
 operation_keeps κs a x = x.told
 
 pub marks_at_keeps : Keeps operations.Marks.at.ended operations_proofs.Marks.at.Reads.Learnt λ κs a r l. r ≡ operation_in a.0 a.1.0.0
 marks_at_keeps κs a x = x.told
 
-pub good_states_keeps : Keeps operations.good_states.ended operations_proofs.good_states.Reads.Learnt λ κs a r l. r ≡ those (meets_all (take a.1.0 a.0)) 64
+pub good_states_keeps : Keeps operations.good_states.ended operations_proofs.good_states.Reads.Learnt λ κs a r l. r ≡ those (meets_all a.0.now) 64
 good_states_keeps κs a x = x.told
 
 pub mark_states_keeps : Keeps operations.mark_states.ended operations_proofs.mark_states.Reads.Learnt λ κs a r l.
-    r ≡ marks_of (body a.0 a.1.0.now a.1.1.0)
+    r ≡ marks_of (drawing_of a.0)
 mark_states_keeps κs a x = x.told
 
 pub stops_keeps : Keeps operations.stops.ended operations_proofs.stops.Reads.Learnt λ κs a r l. r ≡ stops_by a.0 a.1.0 a.1.1.0.0
@@ -239,28 +236,32 @@ contains_keeps κs a x = x.told
 pub insert_keeps : Keeps reach.sets.insert.ended reach_proofs.sets.insert.Reads.Learnt λ κs a r l. r ≡ including a.0 a.1.0.0
 insert_keeps κs a x = x.told
 
-pub next_keeps : Keeps reach.next.ended reach_proofs.next.Reads.Learnt λ κs a r l. r.0 ≡ target a.0.now a.1.0 a.1.1.0.0 a.1.1.1.0.0
-next_keeps κs a x = x.told
+pub moves_of_keeps : Keeps reach.Moves.of.ended reach_proofs.Moves.of.Reads.Learnt λ κs a r l.
+    r ≡ record { table = a.0.table; states = a.0.shape.states; events = a.0.shape.events }
+moves_of_keeps κs a x = x.told
 
-pub with_moves_keeps : Keeps reach.with_moves.ended reach_proofs.with_moves.Reads.Learnt λ κs a r l.
-    r ≡ with_moves a.0.now a.1.0 a.1.1.0.0 a.1.1.1.0 a.1.0
-with_moves_keeps κs a x = x.told
+pub moves_next_keeps : Keeps reach.Moves.next.ended reach_proofs.Moves.next.Reads.Learnt λ κs a r l. r.0 ≡ target a.0.table.now a.0.events a.1.0.0 a.1.1.0.0
+moves_next_keeps κs a x = x.told
 
-pub reached_within_keeps : Keeps reach.reached_within.ended reach_proofs.reached_within.Reads.Learnt λ κs a r l.
-    r ≡ reached_within a.0.now a.1.0 a.1.1.0 a.1.1.1.0.0 a.1.1.1.1.0
-reached_within_keeps κs a x = x.told
+pub moves_with_moves_keeps : Keeps reach.Moves.with_moves.ended reach_proofs.Moves.with_moves.Reads.Learnt λ κs a r l.
+    r ≡ with_moves a.0.table.now a.0.events a.1.0.0 a.1.1.0 a.0.events
+moves_with_moves_keeps κs a x = x.told
 
-pub reached_keeps : Keeps reach.reached.ended reach_proofs.reached.Reads.Learnt λ κs a r l.
-    r ≡ reached_within a.0.now a.1.0 a.1.1.0 a.1.1.1.0.0 (a.1.0 - 1)
-reached_keeps κs a x = x.told
+pub moves_reached_within_keeps : Keeps reach.Moves.reached_within.ended reach_proofs.Moves.reached_within.Reads.Learnt λ κs a r l.
+    r ≡ reached_within a.0.table.now a.0.states a.0.events a.1.0.0 a.1.1.0
+moves_reached_within_keeps κs a x = x.told
 
-pub event_into_keeps : Keeps reach.event_into.ended reach_proofs.event_into.Reads.Learnt λ κs a r l.
-    r ≡ event_into (target a.0.now a.1.0) a.1.0 a.1.1.1.0 a.1.1.0.0
-event_into_keeps κs a x = x.told
+pub moves_reached_keeps : Keeps reach.Moves.reached.ended reach_proofs.Moves.reached.Reads.Learnt λ κs a r l.
+    r ≡ reached_within a.0.table.now a.0.states a.0.events a.1.0.0 (a.0.states - 1)
+moves_reached_keeps κs a x = x.told
 
-pub backward_keeps : Keeps reach.backward.ended reach_proofs.backward.Reads.Learnt λ κs a r l.
-    r ≡ reaching (target a.0.now a.1.1.0) a.1.0 a.1.1.0 a.1.1.1.0
-backward_keeps κs a x = x.told
+pub moves_event_into_keeps : Keeps reach.Moves.event_into.ended reach_proofs.Moves.event_into.Reads.Learnt λ κs a r l.
+    r ≡ event_into (target a.0.table.now a.0.events) a.0.events a.1.1.0 a.1.0.0
+moves_event_into_keeps κs a x = x.told
+
+pub moves_backward_keeps : Keeps reach.Moves.backward.ended reach_proofs.Moves.backward.Reads.Learnt λ κs a r l.
+    r ≡ reaching (target a.0.table.now a.0.events) a.0.states a.0.events a.1.0
+moves_backward_keeps κs a x = x.told
 
 -- numbers and places
 
@@ -269,6 +270,9 @@ place_keeps κs a x = x.told
 
 pub limits_hold_keeps : Keeps rule.Limits.hold.ended rule_proofs.Limits.hold.Reads.Learnt λ κs a r l. r ≡ in_range a.0 a.1.0 a.1.1.0 a.1.1.1.0.0
 limits_hold_keeps κs a x = x.told
+
+pub operation_try_from_keeps : Keeps rule.OperationTryFromU8.try_from.ended rule_proofs.OperationTryFromU8.try_from.Reads.Learnt λ κs a r l. ByMark a.0 r
+operation_try_from_keeps κs a x = x.told
 
 pub operation_mark_keeps : Keeps rule.Operation.mark.ended rule_proofs.Operation.mark.Reads.Learnt λ κs a r l. r ≡ mark_of a.0
 operation_mark_keeps κs a x = x.told

@@ -1,7 +1,7 @@
 -- Demand 1 holds (specs/Demand1). Assumes nothing.
+use Rattle.std.specs.Prelude.{Ok}
 use Rattle.rule.specs.Drawing.{Drawing, drawn}
 use Rattle.rule.specs.Given.{NoPair, BothEmpty}
-use Rattle.rule.specs.declared.Verdict.TheVariants.{Sound}
 use Rattle.checks.proofs.HeldLaws.{checked_gives}
 use Rattle.trailer.proofs.NumberLaws.{shape_gives, head_gives}
 use Rattle.rulefile.specs.Layout.{drawing_in, file_of}
@@ -44,7 +44,7 @@ demand_1 =
       find = find_ends;
       one_add = λ b number rule out. put_one (add_verdict b rule) (with_rule b number rule) out;
       add = λ b number rule out w out' p. add_ends b number rule out p;
-      one_file = λ d out. put_one Sound (file_of d) out;
+      one_file = λ d out. put_one (Ok tt) (file_of d) out;
       put_file = λ d out w out' p. only_room_ends p;
       one_make = λ f out. put_one (verdict_on f) (sheet_of (drawing_in f)) out;
       make = λ f out w out' p. make_ends p;
@@ -59,7 +59,7 @@ demand_1 =
       evening = λ sheet run log memory output r memory' output' p. evening_ends sheet run memory output r memory' output' log p;
       store = λ next run e memory r memory' p. store_ends p;
       dump = λ next held e output r output' p. dump_ends p;
-      one_print = λ f out. put_one Sound (text_of f) out;
+      one_print = λ f out. put_one (Ok tt) (text_of f) out;
       print = λ f out w out' p. print_ends f p;
       c_make = λ rule out r out' p. c_put_ends (λ w. make_ends) p;
       c_print = λ rule out r out' p. c_put_ends (λ w. print_ends rule) p;

@@ -5,9 +5,8 @@ use mathlib.Core.List.{List, [], ◌∷◌, ◌++◌}
 use Rattle.rule.specs.Machine.{machine_of}
 use Rattle.rule.proofs.OperationLaws.{accepts_machine}
 use Rattle.rulefile.specs.Layout.{drawing_in}
-use Rattle.effects.specs.Effects.{answer_in}
+use Rattle.effects.specs.Effects.{Turn, answer_in}
 use Rattle.effects.specs.declared.Run.{Run}
-use Rattle.effects.specs.declared.Turn.{Turn}
 use Rattle.history.specs.Course.{Entry, codes}
 use Rattle.history.specs.History.{History}
 use Rattle.history.proofs.HistoryLaws.{history_kept, history_sharp, history_halted}

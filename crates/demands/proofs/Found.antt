@@ -3,17 +3,16 @@ use Prim.Native.Nat.{ℕ}
 use mathlib.Core.Path.{◌≡◌, refl, sym, ap, ◌∙◌}
 use mathlib.Core.List.{List, [], ◌∷◌, ◌++◌}
 use native.Mathlib.Omega.{arith}
+use Rattle.std.specs.Prelude.{Ok, Err}
 use Rattle.octets.specs.Numbers.{digits}
-use Rattle.rule.specs.declared.Verdict.TheVariants.{Sound}
 use Rattle.rule.proofs.NumberLaws.{Gives}
 use Rattle.rule.proofs.RefusalLaws.{not_both}
 use Rattle.rulefile.specs.Reading.{verdict_on}
 use Rattle.book.specs.Book.{Filed, filed, rules_of, directory_of, book_of, AllKeepable, IsBookOf}
 use Rattle.book.specs.Directory.{entries_in}
-use Rattle.book.specs.Finding.{lookup_of, verdict_by, bytes_by, Finds, in_job, in_office, not_there}
+use Rattle.book.specs.Finding.{Looked, lookup_of, verdict_by, bytes_by, Finds, in_job, in_office, not_there}
 use Rattle.book.specs.Given.{find_order}
-use Rattle.book.specs.declared.Lookup.{Lookup}
-use Rattle.book.specs.declared.Lookup.TheVariants.{Job, Office, Refused}
+use Rattle.book.specs.declared.Lookup.TheVariants.{Job, Office}
 use Rattle.book.proofs.BookLaws.{entries_are}
 use Rattle.book.proofs.FindLaws.{part_bytes}
 use Rattle.book.proofs.BooksHold.{list_finds, list_bytes}
@@ -29,13 +28,13 @@ use Rattle.demands.proofs.FromCLaws.{no_zero}
 
 -- what is found is the rule of the entry in force
 module _ (job office : List ℕ) (l m : List Filed) (i : IsBookOf job l) (j : IsBookOf office m) (number age : ℕ) where
-  force_found : verdict_by (lookup_of job office number age) ≡ Sound → RuleInForce l m number age (bytes_by (lookup_of job office number age) job office)
+  force_found : verdict_by (lookup_of job office number age) ≡ Ok tt → RuleInForce l m number age (bytes_by (lookup_of job office number age) job office)
   force_found = by (lookup_of job office number age) (list_finds job office l m i j number age)
     where
-      by : (r : Lookup) → Finds l m number age r → verdict_by r ≡ Sound → RuleInForce l m number age (bytes_by r job office)
-      by (Job start size) (in_job f) e = of_job f (list_bytes job l i f)
-      by (Office start size) (in_office n f) e = of_office n f (list_bytes office m j f)
-      by (Refused x) (not_there h) e = not_both e refl
+      by : (r : Looked) → Finds l m number age r → verdict_by r ≡ Ok tt → RuleInForce l m number age (bytes_by r job office)
+      by (Ok (Job start size)) (in_job f) e = of_job f (list_bytes job l i f)
+      by (Ok (Office start size)) (in_office n f) e = of_office n f (list_bytes office m j f)
+      by (Err x) (not_there h) e = not_both e refl
 
 -- both demands, of whatever was found
 found_rule : {l m : List Filed} {number age : ℕ} {part : List ℕ} → RuleInForce l m number age part → RuleFound l m number age part
@@ -46,14 +45,14 @@ found_rule {part = part} f =
 
 AllSound : List Filed → Type 0
 AllSound [] = Unit {0}
-AllSound (x ∷ l) = (verdict_on x.rule ≡ Sound) × AllSound l
+AllSound (x ∷ l) = (verdict_on x.rule ≡ Ok tt) × AllSound l
 
-sound_last : (l : List Filed) (x : Filed) → AllSound l → verdict_on x.rule ≡ Sound → AllSound (l ++ (x ∷ []))
+sound_last : (l : List Filed) (x : Filed) → AllSound l → verdict_on x.rule ≡ Ok tt → AllSound (l ++ (x ∷ []))
 unfolding AllSound
 sound_last [] x a s = (s, tt)
 sound_last (y ∷ l) x a s = (a.0, sound_last l x a.1 s)
 
-sound_at : (before : List Filed) (x : Filed) (after : List Filed) → AllSound (before ++ x ∷ after) → verdict_on x.rule ≡ Sound
+sound_at : (before : List Filed) (x : Filed) (after : List Filed) → AllSound (before ++ x ∷ after) → verdict_on x.rule ≡ Ok tt
 unfolding AllSound
 sound_at [] x after a = a.0
 sound_at (y ∷ before) x after a = sound_at before x after a.1
@@ -77,21 +76,21 @@ grown_sound (added {b} g number numbered rule out n out' p) =
     }
 
 -- the rule in force in such books is sound
-force_sound : {l m : List Filed} {number age : ℕ} {part : List ℕ} → AllSound l → AllSound m → RuleInForce l m number age part → verdict_on part ≡ Sound
+force_sound : {l m : List Filed} {number age : ℕ} {part : List ℕ} → AllSound l → AllSound m → RuleInForce l m number age part → verdict_on part ≡ Ok tt
 force_sound a c (of_job f e) = rw e (sound_at f.before f.entry f.after (rw f.is at a))
 force_sound a c (of_office n f e) = rw e (sound_at f.before f.entry f.after (rw f.is at c))
 
 -- what C reads off an answer
-part_for_C : (r : Lookup) (job office : List ℕ) → part_for_c (found_of r) job office ≡ bytes_by r job office
-part_for_C (Job start size) job office = refl
-part_for_C (Office start size) job office = refl
-part_for_C (Refused x) job office = refl
+part_for_C : (r : Looked) (job office : List ℕ) → part_for_c (found_of r) job office ≡ bytes_by r job office
+part_for_C (Ok (Job start size)) job office = refl
+part_for_C (Ok (Office start size)) job office = refl
+part_for_C (Err x) job office = refl
 
 -- refusal 0 is "found"
-zero_found : (r : Lookup) → Gives find_order (verdict_by r) → (found_of r).refusal ≡ 0 → verdict_by r ≡ Sound
-zero_found (Job start size) g e = refl
-zero_found (Office start size) g e = refl
-zero_found (Refused x) g e = absurd (no_zero refl (g x refl) e)
+zero_found : (r : Looked) → Gives find_order (verdict_by r) → (found_of r).refusal ≡ 0 → verdict_by r ≡ Ok tt
+zero_found (Ok (Job start size)) g e = refl
+zero_found (Ok (Office start size)) g e = refl
+zero_found (Err x) g e = absurd (no_zero refl (g x refl) e)
 
 pub from_books : FromBooks
 from_books =

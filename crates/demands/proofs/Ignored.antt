@@ -2,13 +2,13 @@
 use Prim.Native.Nat.{ℕ, ◌≤◌}
 use mathlib.Core.Path.{◌≡◌, ◌∙◌}
 use mathlib.Core.List.{List}
+use Rattle.std.specs.Prelude.{None, Ok}
 use Rattle.rule.specs.Drawing.{events}
 use Rattle.rule.specs.Machine.{machine_of}
 use Rattle.rule.specs.declared.EventNo.{EventNo}
 use Rattle.rulefile.specs.Layout.{drawing_in}
 use Rattle.effects.specs.declared.Run.{Run}
-use Rattle.effects.specs.declared.Answer.{Answer}
-use Rattle.effects.specs.declared.Answer.TheVariants.{Ignored}
+use Rattle.effects.specs.Effects.{Answer}
 use Rattle.monitor.specs.Event.{EventPromise}
 use Rattle.monitor.proofs.KnownLaws.{calls_heard, evening_heard, same_heard}
 use Rattle.history.specs.Course.{Entry}
@@ -22,7 +22,7 @@ use Rattle.demands.proofs.MadeLaws.{made_lawful}
 ignored_anywhere : (file sheet : List ℕ) → Made file sheet → {log : List Entry} {released : List ℕ} {run : Run} {memory : List ℕ}
     → History sheet log released run memory → (e : EventNo) → events (drawing_in file) ≤ e.0
     → (output : List ℕ) (r : Answer) (memory' output' : List ℕ) → EventPromise sheet run e memory output r memory' output'
-    → (r ≡ Ignored) × (memory' ≡ memory) × (output' ≡ output)
+    → (r ≡ Ok None) × (memory' ≡ memory) × (output' ≡ output)
 ignored_anywhere file sheet made h e k output r memory' output' p =
     let M = made_lawful made in
     let t = history_ignores (machine_of (drawing_in file)) M.lawful sheet M.drawn h e k output in

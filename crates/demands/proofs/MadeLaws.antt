@@ -8,12 +8,12 @@ use mathlib.Core.Logic.{◌⊎◌}
 use mathlib.Core.List.{List, [], ◌++◌}
 use lib.ListN.{length, drop}
 use lib.Seq.{take_at}
+use Rattle.std.specs.Prelude.{Ok}
 use Rattle.rule.specs.Drawing.{count}
 use Rattle.rule.specs.Range.{last_mode}
 use Rattle.rule.specs.Classes.{OfClass}
 use Rattle.rule.specs.WellDrawn.{WellDrawn}
 use Rattle.rule.specs.Machine.{machine_of, Laws, Sharp}
-use Rattle.rule.specs.declared.Verdict.TheVariants.{Sound}
 use Rattle.rule.proofs.ClassLaws.{of_class}
 use Rattle.rule.proofs.GivenLaws.{conditions_sound}
 use Rattle.rule.proofs.OperationLaws.{laws, sharp}
@@ -25,7 +25,7 @@ use Rattle.rulefile.proofs.WellLaws.{file_shaped, file_pairs, file_well}
 use Rattle.sheet.specs.Layout.{sheet_of}
 use Rattle.making.proofs.MakingLaws.{Formed, sheet_opens, sheet_cell}
 use Rattle.making.proofs.FoundLaws.{sound_formed}
-use Rattle.monitor.specs.Fresh.{start_of}
+use Rattle.monitor.specs.Fresh.{start_run}
 use Rattle.history.specs.History.{History, fresh}
 use Rattle.history.proofs.HistoryLaws.{Drawn}
 use Rattle.demands.specs.Made.{Made}
@@ -62,7 +62,7 @@ made_lawful {file} {sheet} made =
     }
 
 -- every file that is not refused has its sheet made: into an output of the sheet's length, for instance
-pub sound_made : (file : List ℕ) → verdict_on file ≡ Sound → Made file (sheet_of (drawing_in file))
+pub sound_made : (file : List ℕ) → verdict_on file ≡ Ok tt → Made file (sheet_of (drawing_in file))
 sound_made file s =
     let bytes = sheet_of (drawing_in file) in
     record {
@@ -75,5 +75,5 @@ sound_made file s =
     }
 
 -- and a run begins on it
-pub begins : {file sheet : List ℕ} → Made file sheet → (memory : List ℕ) → History sheet [] [] (start_of sheet).run memory
-begins {file} {sheet} made memory = fresh (start_of sheet).run memory (rw (made_lawful made).drawn.opened)
+pub begins : {file sheet : List ℕ} → Made file sheet → (memory : List ℕ) → History sheet [] [] (start_run sheet) memory
+begins {file} {sheet} made memory = fresh (start_run sheet) memory (rw (made_lawful made).drawn.opened)

@@ -4,6 +4,7 @@ use native.Mathlib.Omega.{arith}
 use mathlib.Core.Path.{◌≡◌, refl, sym, ap, ◌∙◌}
 use mathlib.Core.List.{List, [], ◌∷◌, map}
 use lib.ListN.{length, get_or}
+use Rattle.std.specs.Prelude.{Result, Ok, Err}
 use Rattle.octets.specs.Numbers.{value_of, digits}
 use Rattle.rule.specs.Sets.{has, insert, including, those, meets_below, meets, is_empty, names_past}
 use Rattle.rule.specs.Reach.{target, with_moves, moved_below, moved_set, spread, reached_within}
@@ -18,12 +19,10 @@ use Rattle.rule.specs.Refusals.{first_of, first_below, first_cell, entries, memb
 use Rattle.rule.specs.Refusals.{conditions}
 use Rattle.rule.specs.WellDrawn.{WellDrawn}
 use Rattle.rule.specs.Putting.{settled_by}
+use Rattle.rule.specs.Verdict.{Verdict, Written}
 use Rattle.rule.specs.declared.Operation.{Operation}
 use Rattle.rule.specs.declared.Operation.TheVariants.{Halt, Store, Dump}
-use Rattle.rule.specs.declared.Verdict.{Verdict}
-use Rattle.rule.specs.declared.Verdict.TheVariants.{Sound, Refused as Unsound}
-use Rattle.rule.specs.declared.Written.{Written}
-use Rattle.rule.specs.declared.Written.TheVariants.{Done, Refused as Unwritten}
+use Rattle.rule.specs.declared.Refusal.{Refusal}
 use Rattle.rule.proofs.OperationLaws.{operation_dump}
 use Rattle.rule.proofs.ModeLaws.{well_in, one_pair_same, halts_jointly, one_pair_passes, joint_passes}
 use Rattle.trailer.specs.Conditions.{framed, classed, ranged, placed}
@@ -58,28 +57,28 @@ one_sheet d formed mode same =
 
 -- two answers that differ in the pair that a store names are alike
 alike_by : (w : Written) (o : Operation) (l i j : ℕ) → Alike (ground_by w o l i) (ground_by w o l j)
-alike_by (Unwritten r) o l i j = refused
-alike_by (Done n) Halt l i j = halted
-alike_by (Done n) Store l i j = held
-alike_by (Done n) Dump l i j = released
+alike_by (Err r) o l i j = refused
+alike_by (Ok n) Halt l i j = halted
+alike_by (Ok n) Store l i j = held
+alike_by (Ok n) Dump l i j = released
 
 -- with one pair the answers to why are alike in every mode
-module _ (d : Drawing) (well : WellDrawn d) (one : count d ≡ 1) (mode t : ℕ) {out out' out'' : List ℕ} {g g' : Ground} where
-  one_why : (v : Verdict) → (v ≡ Sound → t < states d) → GroundPromise v d t out g out' → GroundPromise v (in_mode mode d) t out g' out''
+module _ (d : Drawing) (well : WellDrawn d) (one : count d ≡ 1) (mode t : ℕ) {out out' out'' : List ℕ} {g g' : Result Ground Refusal} where
+  one_why : (v : Verdict) → (v ≡ Ok tt → t < states d) → GroundPromise v d t out g out' → GroundPromise v (in_mode mode d) t out g' out''
       → Alike g g' × (out' ≡ out'')
-  one_why (Unsound r) low p q =
+  one_why (Err r) low p q =
       (rw (p.answer, q.answer, p.put.answer, q.put.answer) refused, p.put.output ∙ sym q.put.output)
-  one_why Sound low p q =
+  one_why (Ok tt) low p q =
       let h = low refl in
       let told = one_told d well one mode t h in
-      let w = settled_by Sound (length (way_told d t)) (length out) in
-      let same : settled_by Sound (length (way_told (in_mode mode d) t)) (length out) ≡ w = rw told in (
+      let w = settled_by (Ok tt) (length (way_told d t)) (length out) in
+      let same : settled_by (Ok tt) (length (way_told (in_mode mode d) t)) (length out) ≡ w = rw told in (
         rw (p.answer, q.answer, p.put.answer, q.put.answer, same, one_operation d well one mode t h, one_lost d well one mode t h)
             (alike_by w (operation_at d t) (lost_pair d t) (wanted_pair d t) (wanted_pair (in_mode mode d) t)),
         p.put.output ∙ sym (q.put.output ∙ rw told),
       )
 
-module _ (f : List ℕ) (sound : verdict_on f ≡ Sound) where
+module _ (f : List ℕ) (sound : verdict_on f ≡ Ok tt) where
   abbrev d : Drawing
   d = drawing_in f
 
@@ -87,7 +86,7 @@ module _ (f : List ℕ) (sound : verdict_on f ≡ Sound) where
   drawing = file_drawing f (sound_file f sound)
 
   -- in another mode, where that passes the checks 5 to 9
-  sound_in : (mode : ℕ) → mode ≤ last_mode → first_of (conditions (in_mode mode d)) ≡ Sound → SoundDrawing (in_mode mode d)
+  sound_in : (mode : ℕ) → mode ≤ last_mode → first_of (conditions (in_mode mode d)) ≡ Ok tt → SoundDrawing (in_mode mode d)
   sound_in mode known passes =
       let r = drawing.range in
       record {
@@ -115,7 +114,7 @@ module _ (f : List ℕ) (sound : verdict_on f ≡ Sound) where
     unfolding why_verdict
     same_verdict = rw (file_sound (in_mode mode d) (one_pair_in one mode known), sound, read)
 
-    both_why : (out : List ℕ) (g g' : Ground) (out' out'' : List ℕ) → WhyPromise f s e out g out' → WhyPromise (file_in mode f) s e out g' out''
+    both_why : (out : List ℕ) (g g' : Result Ground Refusal) (out' out'' : List ℕ) → WhyPromise f s e out g out' → WhyPromise (file_in mode f) s e out g' out''
         → Alike g g' × (out' ≡ out'')
     both_why out g g' out' out'' p q =
         one_why d well one mode (next d s e) (why_verdict f s e)

@@ -3,6 +3,7 @@
 use Prim.Native.Nat.{ℕ}
 use mathlib.Core.Path.{◌≡◌, refl}
 use mathlib.Core.List.{List, [], ◌∷◌, map}
+use Rattle.std.specs.Prelude.{Ok}
 use Rattle.octets.specs.Numbers.{value_of, digits}
 use Rattle.rule.specs.Sets.{has, insert, including, those, meets_below, meets, is_empty, names_past}
 use Rattle.rule.specs.Reach.{target, with_moves, moved_below, moved_set, spread, reached_within}
@@ -14,7 +15,6 @@ use Rattle.rule.specs.Stopping.{stops_by, stopping_joint}
 use Rattle.rule.specs.Classes.{moves_into, moves_out, forbids, forbids_some}
 use Rattle.rule.specs.Range.{in_range}
 use Rattle.rule.specs.Refusals.{first_of, first_below, first_cell, entries, members, exceeds, excess, moves, stopped_pairs, stopped_joint, stopped}
-use Rattle.rule.specs.declared.Verdict.TheVariants.{Sound}
 use Rattle.trailer.specs.Conditions.{framed, classed, ranged, placed}
 use Rattle.trailer.specs.Layout.{trailer_of, trailer_out}
 use Rattle.rulefile.specs.Layout.{up_to, drawing_in, flat_up_to, file_of}
@@ -37,7 +37,7 @@ unfolding file_of flat_up_to trailer_out digits drawing_in trailer_of up_to valu
 read_back = refl
 
 -- and none of them is refused
-pub none_refused : map (λ d. verdict_on (file_of d)) (A ∷ S ∷ G ∷ O ∷ D ∷ []) ≡ Sound ∷ Sound ∷ Sound ∷ Sound ∷ Sound ∷ []
+pub none_refused : map (λ d. verdict_on (file_of d)) (A ∷ S ∷ G ∷ O ∷ D ∷ []) ≡ Ok tt ∷ Ok tt ∷ Ok tt ∷ Ok tt ∷ Ok tt ∷ []
 unfolding file_of flat_up_to trailer_out digits drawing_in trailer_of up_to value_of verdict_on first_of framed classed ranged in_range placed first_below
     first_cell entries members exceeds excess moves stopped_pairs stopped names_past is_empty has insert including meets_below meets target with_moves
     moved_below moved_set spread reached_within reach_of stops_by moves_into moves_out forbids forbids_some
@@ -56,7 +56,7 @@ unfolding sheet_of digits operation_at operation_pairs smallest_of paper.value_o
 sheets = refl
 
 -- the joint rule is not refused either
-pub joint_sound : verdict_on (file_of J) ≡ Sound
+pub joint_sound : verdict_on (file_of J) ≡ Ok tt
 unfolding file_of flat_up_to trailer_out digits drawing_in trailer_of up_to value_of verdict_on first_of framed classed ranged in_range placed first_below
     first_cell entries members exceeds excess moves stopped_pairs stopped_joint stopped names_past is_empty has insert including those meets_below meets
     target with_moves moved_below moved_set spread reached_within reach_of stops_by stopping_joint good_of meets_all meets_pair moves_into moves_out

@@ -6,7 +6,9 @@ use mathlib.Core.Bool.{true}
 use mathlib.Core.Logic.{◌⊎◌, ⊎_elim}
 use mathlib.Core.List.{List, [], ◌∷◌, ◌++◌, append_assoc}
 use lib.ListN.{length, get_or, take, drop, length-append}
-use lib.Seq.{take_at, drop_at}
+use lib.Seq.{take_at}
+use Rattle.std.specs.Prelude.{Ok}
+use Rattle.std.proofs.lemmas.List.{append_cancel_left}
 use Rattle.rule.specs.Acceptance.{meets_all}
 use Rattle.rule.specs.Drawing.{Drawing, states, events, count, initial, next}
 use Rattle.rule.specs.Machine.{machine_of}
@@ -15,7 +17,6 @@ use Rattle.rule.specs.Operations.{operation_at, operation}
 use Rattle.rule.specs.Reach.{after, place_of, more}
 use Rattle.rule.specs.WellDrawn.{WellDrawn}
 use Rattle.rule.specs.declared.Operation.TheVariants.{Halt}
-use Rattle.rule.specs.declared.Refusal.{Refusal}
 use Rattle.rule.proofs.PairLaws.{says_meets_all}
 use Rattle.rule.proofs.WayLaws.{after_append}
 use Rattle.rulefile.specs.Layout.{drawing_in}
@@ -34,7 +35,7 @@ use Rattle.history.proofs.RoomLaws.{AllTaken, calls_taken}
 use Rattle.why.specs.Grounds.{Lost, Wanted, a_pair, all_pairs, goal, StoreGround}
 use Rattle.why.specs.Why.{Says, held, WhyPromise}
 use Rattle.why.specs.declared.Ground.{Ground}
-use Rattle.why.specs.declared.Ground.TheVariants.{Held, Refused}
+use Rattle.why.specs.declared.Ground.TheVariants.{Held}
 use Rattle.why.proofs.AnswerLaws.{Accepted, was_accepted, why_says, why_names, why_room}
 use Rattle.why.proofs.GroundLaws.{goal_pair, goal_all, halt_when, store_when, dump_when, one_halt, one_store, way_some, way_few}
 use Rattle.demands.specs.Made.{Made}
@@ -53,19 +54,19 @@ of_grounds d well t h =
       few = way_few d well t h;
     }
 
-of_answers : (file : List ℕ) (s e : ℕ) (out : List ℕ) (g : Ground) (out' : List ℕ) → WhyPromise file s e out g out'
-    → ((x : Refusal) → g ≡ Refused x → ⊥) → OfAnswers file s e out g out'
-of_answers file s e out g out' p answered =
+of_answers : (file : List ℕ) (s e : ℕ) (out : List ℕ) (g : Ground) (out' : List ℕ) → WhyPromise file s e out (Ok g) out'
+    → OfAnswers file s e out g out'
+of_answers file s e out g out' p =
     let d = drawing_in file in
-    let a = was_accepted file s e out g out' p answered in
+    let a = was_accepted file s e out g out' p in
     record {
-      says = why_says file s e out g out' p answered;
+      says = why_says file s e out g out' p;
       cell = λ sheet made.
           let M = made_lawful made in
           let c : operation_of (get_or sheet (place_of (events d) s e) 0 / 64) ≡ operation d s e =
           ap (λ (l : List ℕ). operation_of (get_or l (place_of (events d) s e) 0 / 64)) M.sheet_is
           ∙ ap operation_of (cell_operation M.formed s e a.state_in a.event_in) ∙ mark_back (operation d s e) in
-          rw c (why_names file s e out g out' p answered);
+          rw c (why_names file s e out g out' p);
     }
 
 -- the last entry of a log that is not empty
@@ -86,15 +87,12 @@ way_told_is {out = out} {n = n} (held w free g size whole) =
 
 module _ (file sheet : List ℕ) (made : Made file sheet) {log : List Entry} {released : List ℕ} {run : Run} {memory : List ℕ}
     (h : History sheet log released run memory) (e : ℕ) (out : List ℕ) (i n : ℕ) (out' : List ℕ)
-    (p : WhyPromise file run.state.0 e out (Held i n) out') where
+    (p : WhyPromise file run.state.0 e out (Ok (Held i n)) out') where
   abbrev d : Drawing
   d = drawing_in file
 
-  answered : (x : Refusal) → Held i n ≡ Refused x → ⊥
-  answered x q = let z : ◌≡◌ {A = ℕ} 0 1 = cc in omega arith
-
   told : NoPair d (Lost d (next d run.state.0 e)) × StoreGround d (next d run.state.0 e) i (take n out') × (length (take n out') ≡ n)
-  told = way_told_is (why_says file run.state.0 e out (Held i n) out' p answered)
+  told = way_told_is (why_says file run.state.0 e out (Held i n) out' p)
 
   ground : StoreGround d (next d run.state.0 e) i (take n out')
   ground = told.1
@@ -143,7 +141,7 @@ module _ (file sheet : List ℕ) (made : Made file sheet) {log : List Entry} {re
     x = evening_of sheet run es memory output
 
     asked : Accepted file run.state.0 e
-    asked = was_accepted file run.state.0 e out (Held i n) out' p answered
+    asked = was_accepted file run.state.0 e out (Held i n) out' p
 
     after_in : next d run.state.0 e < states d
     after_in = asked.well.closed run.state.0 e asked.state_in asked.event_in
@@ -167,17 +165,14 @@ module _ (file sheet : List ℕ) (made : Made file sheet) {log : List Entry} {re
     not_halted o =
         let s = (store_when d asked.well (next d run.state.0 e) after_in).1 (told.0, (i, take n out', ground)) in
         let t = (made_lawful made).lawful.halt_stays run.state.0 e asked.state_in asked.event_in o in
-        let z : ◌≡◌ {A = ℕ} 0 1 = cc in
-        omega arith
+        cc (s, t)
 
     gone_out : (released ++ take r.released output' ≡ codes (log ++ x.taken)) → take r.released output' ≡ take run.held memory ++ es
     gone_out all =
         let M = made_lawful made in
-        let whole : released ++ take r.released output' ≡ released ++ (take run.held memory ++ es) =
-        all ∙ codes_all ∙ ap (λ (l : List ℕ). l ++ es) (sym (history_all (machine_of d) M.lawful sheet M.drawn h not_halted))
-        ∙ append_assoc released (take run.held memory) es in
-        sym (drop_at released (take r.released output') (length released) refl) ∙ ap (drop (length released)) whole
-        ∙ drop_at released (take run.held memory ++ es) (length released) refl
+        append_cancel_left released _ _
+        (all ∙ codes_all ∙ ap (λ (l : List ℕ). l ++ es) (sym (history_all (machine_of d) M.lawful sheet M.drawn h not_halted))
+        ∙ append_assoc released (take run.held memory) es)
 
     way_taken : WayTaken d i run es memory r output'
     way_taken =

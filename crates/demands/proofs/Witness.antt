@@ -8,16 +8,16 @@ use mathlib.Core.Bool.{Bool, true, ◌&&◌}
 use mathlib.Core.List.{List, [], ◌∷◌}
 use lib.ListN.{length, get_or}
 use lib.Dec.{ltb}
+use Rattle.std.specs.Prelude.{Ok, Err}
 use Rattle.octets.specs.Numbers.{Bytes, digits}
-use Rattle.rule.specs.Drawing.{Drawing, event_no, drawn}
+use Rattle.rule.specs.Drawing.{Drawing, event_no, drawn, rule_of}
 use Rattle.rule.specs.declared.Refusal.TheVariants.{Room}
-use Rattle.rule.specs.declared.Verdict.TheVariants.{Sound, Refused}
+use Rattle.rule.specs.declared.Rule.{Rule}
 use Rattle.rule.proofs.BoolLaws.{itself, lt_says, and_says}
 use Rattle.trailer.specs.Layout.{trailer_out}
 use Rattle.rulefile.specs.Layout.{drawing_in, file_of, flat_up_to}
 use Rattle.rulefile.specs.Reading.{verdict_on, reading_of}
 use Rattle.rulefile.specs.Writing.{verdict_of, Held, WritePromise}
-use Rattle.rule.specs.declared.Written.TheVariants.{Done}
 use Rattle.rule.proofs.PutLaws.{put_one}
 use Rattle.rulefile.proofs.RoundTrips.{read_held, read_written}
 use Rattle.sheet.specs.Layout.{sheet_of}
@@ -48,10 +48,11 @@ pub record StandForC (sheet : List ℕ) : Type 0 where
 pub record Witnessed (d : Drawing) (events : List ℕ) : Type 0 where
   -- of RoundTrips: its file is bytes and is read; the rule that is read carries its arrays whole, and is written
   pub bytes : Bytes (file_of d)
-  pub read : (reading_of (file_of d)).verdict ≡ Sound
-  pub whole : Held (reading_of (file_of d)).rule
+  pub rule : Rule
+  pub read : reading_of (file_of d) ≡ Ok rule
+  pub whole : Held rule
   pub out' : List ℕ
-  pub written : WritePromise (reading_of (file_of d)).rule (file_of d) (Done (length (file_of d))) out'
+  pub written : WritePromise rule (file_of d) (Ok (length (file_of d))) out'
   -- of demands 2 and 3: its sheet is made, and there is a history on it
   pub sheet : List ℕ
   pub stand : Stand
@@ -79,8 +80,8 @@ module _ {file sheet : List ℕ} (made : Made file sheet) where
       record {
         out = made.out;
         out' = made.out';
-        made = made_of (Done made.size);
-        promise = record { answer = Done made.size; promise = made.promise; told = refl };
+        made = made_of (Ok made.size);
+        promise = record { answer = Ok made.size; promise = made.promise; told = refl };
         done = refl;
         front = made.front;
       }
@@ -93,7 +94,7 @@ module _ {file sheet : List ℕ} (made : Made file sheet) where
         state = _;
         held = _;
         memory = eight;
-        history = fresh (started_of (start_of sheet).verdict (start_of sheet).run) eight refl (rw (made_lawful made).drawn.opened);
+        history = fresh (started_of (start_of sheet)) eight refl (rw (made_lawful made).drawn.opened);
       }
 
   one_for_C : StandForC sheet → ℕ → StandForC sheet
@@ -117,18 +118,20 @@ module _ {file sheet : List ℕ} (made : Made file sheet) where
   all_for_C s (e ∷ es) = all_for_C (one_for_C s e) es
 
 -- every rule whose file is not refused has them
-pub witnessed : (d : Drawing) (events : List ℕ) → all_bytes (file_of d) ≡ true → verdict_on (file_of d) ≡ Sound → Witnessed d events
+pub witnessed : (d : Drawing) (events : List ℕ) → all_bytes (file_of d) ≡ true → verdict_on (file_of d) ≡ Ok tt → Witnessed d events
 unfolding reading_of
 witnessed d events b s =
     let file = file_of d in
     let made = sound_made file s in
     let sheet = sheet_of (drawing_in file) in
     let history = all_history sheet (begin sheet) events (begins made eight) in
-    let read : (reading_of file).verdict ≡ Sound = rw s in
-    let one = put_one (verdict_of (reading_of file).rule) (file_of (drawn (reading_of file).rule)) file in
+    let rule = rule_of (drawing_in file) in
+    let read : reading_of file ≡ Ok rule = rw s in
+    let one = put_one (verdict_of rule) (file_of (drawn rule)) file in
     let p = read_written file read (all_bytes_are file b) file (omega arith) _ _ one.kept in
     record {
       bytes = all_bytes_are file b;
+      rule = rule;
       read = read;
       whole = read_held file read;
       out' = one.output;
@@ -145,23 +148,23 @@ witnessed d events b s =
 -- marked runs 4, 8, 9, 10 and 12
 pub run_4 : Witnessed A (0 ∷ 1 ∷ 2 ∷ 0 ∷ 1 ∷ 0 ∷ 2 ∷ [])
 unfolding file_of flat_up_to trailer_out digits
-run_4 = witnessed A _ refl (ap (λ l. get_or l 0 (Refused Room)) none_refused)
+run_4 = witnessed A _ refl (ap (λ l. get_or l 0 (Err Room)) none_refused)
 
 pub run_8 : Witnessed S (0 ∷ 1 ∷ 1 ∷ [])
 unfolding file_of flat_up_to trailer_out digits
-run_8 = witnessed S _ refl (ap (λ l. get_or l 1 (Refused Room)) none_refused)
+run_8 = witnessed S _ refl (ap (λ l. get_or l 1 (Err Room)) none_refused)
 
 pub run_9 : Witnessed G (0 ∷ 0 ∷ 1 ∷ 0 ∷ [])
 unfolding file_of flat_up_to trailer_out digits
-run_9 = witnessed G _ refl (ap (λ l. get_or l 2 (Refused Room)) none_refused)
+run_9 = witnessed G _ refl (ap (λ l. get_or l 2 (Err Room)) none_refused)
 
 pub run_10 : Witnessed O (2 ∷ 2 ∷ [])
 unfolding file_of flat_up_to trailer_out digits
-run_10 = witnessed O _ refl (ap (λ l. get_or l 3 (Refused Room)) none_refused)
+run_10 = witnessed O _ refl (ap (λ l. get_or l 3 (Err Room)) none_refused)
 
 pub run_12 : Witnessed D (0 ∷ [])
 unfolding file_of flat_up_to trailer_out digits
-run_12 = witnessed D _ refl (ap (λ l. get_or l 4 (Refused Room)) none_refused)
+run_12 = witnessed D _ refl (ap (λ l. get_or l 4 (Err Room)) none_refused)
 
 -- and a run in joint mode
 pub run_J : Witnessed J (0 ∷ 1 ∷ 2 ∷ [])

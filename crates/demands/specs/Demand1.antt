@@ -10,37 +10,35 @@
 -- An evening ends at its first refused event. There the demand, and the rule that a refusal changes nothing, hold of that event, not of those before it:
 -- what it leaves is what these left (`EveningKept`, there too).
 -- Assumes nothing: this is a statement. proofs/Demand1 proves it.
-use Rattle.std.specs.Prelude.{ℕ, ◌≡◌, List, [], ◌∷◌, length}
+use Rattle.std.specs.Prelude.{ℕ, ◌≡◌, List, [], ◌∷◌, length, Result, Ok, Err}
 use Rattle.std.specs.Borrow.{Bor}
-use Rattle.rule.specs.Drawing.{Drawing, state_no, event_no, drawn, zero_rule}
+use Rattle.rule.specs.Drawing.{Drawing, event_no, drawn}
 use Rattle.rule.specs.Refusals.{Numbered, first_of, verdict_told, entries, members, excess, moves, stopped}
 use Rattle.rule.specs.Given.{Ends, NoPair, BothEmpty}
 use Rattle.rule.specs.declared.StateNo.{StateNo}
 use Rattle.rule.specs.declared.EventNo.{EventNo}
-use Rattle.rule.specs.declared.Pair.{Pair}
 use Rattle.rule.specs.declared.Rule.{Rule}
 use Rattle.rule.specs.declared.Shape.{Shape}
 use Rattle.rule.specs.declared.Refusal.{Refusal}
-use Rattle.rule.specs.declared.Verdict.TheVariants.{Sound, Refused as Unsound}
+use Rattle.rule.specs.declared.Refusal.TheVariants.{Sheet}
 use Rattle.checks.specs.Checked.{checked_of, checked_order}
 use Rattle.trailer.specs.Conditions.{shape_conditions, shape_order, head_conditions, head_order}
 use Rattle.trailer.specs.declared.Trailer.{Trailer}
 use Rattle.rulefile.specs.Given.{Reading, reading_order, Writing, writing_order, Filing, filing_order}
 use Rattle.rulefile.specs.Layout.{drawing_in}
-use Rattle.rulefile.specs.Reading.{verdict_on, parts_by, parts_of, reading_of}
+use Rattle.rulefile.specs.Reading.{verdict_on, verdict_in, parts_of, reading_of}
 use Rattle.rule.specs.Putting.{OneWritten, written_told, put_order}
+use Rattle.rule.specs.Verdict.{Written}
 use Rattle.rulefile.specs.Writing.{Held, verdict_of, WritePromise, FilePromise}
-use Rattle.rule.specs.declared.Written.{Written}
 use Rattle.book.specs.Finding.{lookup_of, verdict_by, FindPromise}
 use Rattle.book.specs.Adding.{AddPromise}
 use Rattle.book.specs.Given.{Finding, find_order, Adding, add_order}
 use Rattle.making.specs.Given.{Making, making_order}
 use Rattle.making.specs.Making.{MakePromise}
 use Rattle.sheet.specs.Opening.{opened_of, opened_told}
-use Rattle.sheet.specs.declared.Opened.TheVariants.{Refused as Shut}
-use Rattle.effects.specs.Effects.{fresh_run, StorePromise, StoreTable, store_order, DumpPromise, DumpTable, dump_order, OneAnswer, answer_told}
+use Rattle.effects.specs.Effects.{Answer, StorePromise, StoreTable, store_order, DumpPromise, DumpTable, dump_order, OneAnswer, answer_told}
 use Rattle.effects.specs.declared.Run.{Run}
-use Rattle.effects.specs.declared.Answer.{Answer}
+use Rattle.effects.specs.declared.Taken.{Taken}
 use Rattle.monitor.specs.Fresh.{start_of}
 use Rattle.monitor.specs.Event.{EventPromise}
 use Rattle.monitor.specs.Evening.{EveningPromise}
@@ -62,9 +60,9 @@ use Rattle.pachallu.specs.declared.Evening.{Evening as EveningTold}
 use Rattle.pachallu.specs.declared.Reason.{Reason}
 
 pub record Demand1 : Type 0 where
-  -- a rule file, looked at and read: 1 to 9; refused, 0 in every place
-  pub look : (f : List ℕ) → Ends (Reading f) reading_order (verdict_told (parts_of f).verdict) (parts_of f ≡ parts_by (parts_of f).verdict [])
-  pub read : (f : List ℕ) → Ends (Reading f) reading_order (verdict_told (reading_of f).verdict) ((reading_of f).rule ≡ zero_rule)
+  -- a rule file, looked at and read: 1 to 9; refused, no parts and no rule, only the refusal
+  pub look : (f : List ℕ) → Ends (Reading f) reading_order (verdict_told (verdict_in (parts_of f))) ((x : Refusal) × (parts_of f ≡ Err x))
+  pub read : (f : List ℕ) → Ends (Reading f) reading_order (verdict_told (verdict_in (reading_of f))) ((x : Refusal) × (reading_of f ≡ Err x))
   -- a rule, written: 2, 3, 4 for the note, 5 to 9, then 16; refused, the output as it was
   pub one_write : (r : Rule) (out : List ℕ) → OneWritten (WritePromise r out)
   pub write : (r : Rule) → Held r → (out : List ℕ) (w : Written) (out' : List ℕ) → WritePromise r out w out'
@@ -84,13 +82,13 @@ pub record Demand1 : Type 0 where
   pub one_make : (f out : List ℕ) → OneWritten (MakePromise f out)
   pub make : (f out : List ℕ) (w : Written) (out' : List ℕ) → MakePromise f out w out' → Ends (Making f (length out)) making_order (written_told w) (out' ≡ out)
   -- why an event is answered as it is: 1 to 9, 12, 13, then 16; refused, the output as it was
-  pub one_why : (f : List ℕ) (s e : ℕ) (out : List ℕ) (g h : Ground) (out₁ out₂ : List ℕ) → WhyPromise f s e out g out₁ → WhyPromise f s e out h out₂
-      → (g ≡ h) × (out₁ ≡ out₂)
-  pub why : (f : List ℕ) (s e : ℕ) (out : List ℕ) (g : Ground) (out' : List ℕ) → WhyPromise f s e out g out'
+  pub one_why : (f : List ℕ) (s e : ℕ) (out : List ℕ) (g h : Result Ground Refusal) (out₁ out₂ : List ℕ)
+      → WhyPromise f s e out g out₁ → WhyPromise f s e out h out₂ → (g ≡ h) × (out₁ ≡ out₂)
+  pub why : (f : List ℕ) (s e : ℕ) (out : List ℕ) (g : Result Ground Refusal) (out' : List ℕ) → WhyPromise f s e out g out'
       → Ends (Asking f s e (length out)) why_order (ground_told g) (out' ≡ out)
-  -- a sheet, opened, and a run started on it: 11; refused, state 0 with nothing held
-  pub opening : (sheet : List ℕ) → Ends (FreshRow sheet) fresh_order (opened_told (opened_of sheet)) (opened_of sheet ≡ Shut)
-  pub fresh : (sheet : List ℕ) → Ends (FreshRow sheet) fresh_order (verdict_told (start_of sheet).verdict) ((start_of sheet).run ≡ fresh_run (state_no 0))
+  -- a sheet, opened, and a run started on it: 11; refused, no head and no run, only the refusal
+  pub opening : (sheet : List ℕ) → Ends (FreshRow sheet) fresh_order (opened_told (opened_of sheet)) (opened_of sheet ≡ Err Sheet)
+  pub fresh : (sheet : List ℕ) → Ends (FreshRow sheet) fresh_order (answer_told (start_of sheet)) (start_of sheet ≡ Err Sheet)
   -- one event: 11, 12, then 14 to 16; refused, the memory and the output as they were; and when it is ignored
   pub one_event : (sheet : List ℕ) (run : Run) (e : EventNo) (memory output : List ℕ) → OneAnswer (EventPromise sheet run e memory output)
   pub event : (sheet : List ℕ) (run : Run) (e : EventNo) (memory output : List ℕ) (r : Answer) (memory' output' : List ℕ)
@@ -104,10 +102,10 @@ pub record Demand1 : Type 0 where
       → EveningPromise sheet run log memory output r memory' output'
       → Ends (EveningRow sheet run log memory output) evening_order (verdict_told r.verdict) (EveningKept sheet run log memory output r memory' output')
   -- an event's operations alone: a store 15, a dump 16; refused, the memory, or the output, as it was
-  pub store : (next : StateNo) (run : Run) (e : EventNo) (memory : List ℕ) (r : Answer) (memory' : List ℕ) → StorePromise next run e memory r memory'
-      → Ends (StoreTable run.held (length memory)) store_order (answer_told r) (memory' ≡ memory)
-  pub dump : (next : StateNo) (held : List ℕ) (e : EventNo) (output : List ℕ) (r : Answer) (output' : List ℕ) → DumpPromise next held e output r output'
-      → Ends (DumpTable (length held) (length output)) dump_order (answer_told r) (output' ≡ output)
+  pub store : (next : StateNo) (run : Run) (e : EventNo) (memory : List ℕ) (r : Result Taken Refusal) (memory' : List ℕ)
+      → StorePromise next run e memory r memory' → Ends (StoreTable run.held (length memory)) store_order (answer_told r) (memory' ≡ memory)
+  pub dump : (next : StateNo) (held : List ℕ) (e : EventNo) (output : List ℕ) (r : Result Taken Refusal) (output' : List ℕ)
+      → DumpPromise next held e output r output' → Ends (DumpTable (length held) (length output)) dump_order (answer_told r) (output' ≡ output)
   -- a rule's monitor, printed: 16; refused, the output as it was
   pub one_print : (f out : List ℕ) → OneWritten (PrintPromise f out)
   pub print : (f out : List ℕ) (w : Written) (out' : List ℕ) → PrintPromise f out w out'
@@ -135,16 +133,16 @@ pub record Demand1 : Type 0 where
       (EveningKeptForC sheet state held log memory output r memory' output')
   pub c_why : (rule : List ℕ) (state event : ℕ) (way : List ℕ) (r : Reason) (way' : List ℕ) → WhyForC rule state event way r way'
       → Ends (Asking rule state event (length way)) why_order (reason_told r) (WhyKept way r way')
-  -- the checks alone, of a shape, a trailer, and a table with its pairs, give no other number than these
-  pub shape : (s : Shape) (x : Refusal) → first_of (shape_conditions s) ≡ Unsound x → Numbered shape_order x
-  pub head : (t : Trailer) (size : ℕ) (x : Refusal) → first_of (head_conditions t size) ≡ Unsound x → Numbered head_order x
-  pub check : (s : Shape) (table : List ℕ) (pairs : List Pair) (x : Refusal) → checked_of s table pairs ≡ Unsound x → Numbered checked_order x
+  -- the checks alone, of a shape, a trailer and a drawing, give no other number than these
+  pub shape : (s : Shape) (x : Refusal) → first_of (shape_conditions s) ≡ Err x → Numbered shape_order x
+  pub head : (t : Trailer) (size : ℕ) (x : Refusal) → first_of (head_conditions t size) ≡ Err x → Numbered head_order x
+  pub check : (d : Drawing) (x : Refusal) → checked_of d ≡ Err x → Numbered checked_order x
   -- and each of the checks 5 to 9 alone, of any drawing, gives its own number
-  pub check_5 : (d : Drawing) (x : Refusal) → entries d ≡ Unsound x → Numbered (5 ∷ []) x
-  pub check_6 : (d : Drawing) (x : Refusal) → members d ≡ Unsound x → Numbered (6 ∷ []) x
-  pub check_7 : (d : Drawing) (x : Refusal) → excess d ≡ Unsound x → Numbered (7 ∷ []) x
-  pub check_8 : (d : Drawing) (x : Refusal) → moves d ≡ Unsound x → Numbered (8 ∷ []) x
-  pub check_9 : (d : Drawing) (x : Refusal) → stopped d ≡ Unsound x → Numbered (9 ∷ []) x
+  pub check_5 : (d : Drawing) (x : Refusal) → entries d ≡ Err x → Numbered (5 ∷ []) x
+  pub check_6 : (d : Drawing) (x : Refusal) → members d ≡ Err x → Numbered (6 ∷ []) x
+  pub check_7 : (d : Drawing) (x : Refusal) → excess d ≡ Err x → Numbered (7 ∷ []) x
+  pub check_8 : (d : Drawing) (x : Refusal) → moves d ≡ Err x → Numbered (8 ∷ []) x
+  pub check_9 : (d : Drawing) (x : Refusal) → stopped d ≡ Err x → Numbered (9 ∷ []) x
   -- 10 is not looked for: a rule file and a rule that are not refused have no used pair with R and P both empty (specs/NoTen, crate rule)
-  pub no_10 : (f : List ℕ) → verdict_on f ≡ Sound → NoPair (drawing_in f) (BothEmpty (drawing_in f))
-  pub no_10_written : (r : Rule) → Held r → verdict_of r ≡ Sound → NoPair (drawn r) (BothEmpty (drawn r))
+  pub no_10 : (f : List ℕ) → verdict_on f ≡ Ok tt → NoPair (drawing_in f) (BothEmpty (drawing_in f))
+  pub no_10_written : (r : Rule) → Held r → verdict_of r ≡ Ok tt → NoPair (drawn r) (BothEmpty (drawn r))

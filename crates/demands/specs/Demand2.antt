@@ -2,7 +2,7 @@
 -- what the construction of M-105 says, which is one for all classes.
 -- A rule read and written again is byte for byte the same file; a rule written and read is the same rule.
 -- Assumes nothing: these are statements. proofs/Demand2 proves them.
-use Rattle.std.specs.Prelude.{ℕ, ◌/◌, ◌%◌, ◌≤◌, ◌<◌, ◌≡◌, true, ◌↔◌, List, ◌++◌, length, get_or, drop, take}
+use Rattle.std.specs.Prelude.{ℕ, ◌/◌, ◌%◌, ◌≤◌, ◌<◌, ◌≡◌, true, ◌↔◌, List, ◌++◌, length, get_or, drop, take, Ok, Err}
 use Rattle.octets.specs.Numbers.{Bytes}
 use Rattle.rule.specs.Reach.{place_of}
 use Rattle.rule.specs.Drawing.{Drawing, states, events, initial, next, state_no, drawn, rule_of, Same}
@@ -12,23 +12,18 @@ use Rattle.rule.specs.Constructions.{BuiltMove, BuiltStop}
 use Rattle.rule.specs.declared.EventNo.{EventNo}
 use Rattle.rule.specs.declared.Operation.{Operation}
 use Rattle.rule.specs.Given.{NoRow, Given}
+use Rattle.rule.specs.Verdict.{Written}
 use Rattle.rule.specs.declared.Refusal.{Refusal}
 use Rattle.rule.specs.declared.Rule.{Rule}
-use Rattle.rule.specs.declared.Verdict.TheVariants.{Sound}
 use Rattle.rulefile.specs.Layout.{drawing_in}
 use Rattle.rulefile.specs.Reading.{reading_of}
 use Rattle.rulefile.specs.Writing.{WritePromise, Held}
-use Rattle.rule.specs.declared.Written.{Written}
-use Rattle.rule.specs.declared.Written.TheVariants.{Done, Refused}
 use Rattle.making.specs.Given.{Making, making_order}
 use Rattle.sheet.specs.Layout.{sheet_of}
 use Rattle.making.specs.Making.{MakePromise}
 use Rattle.sheet.specs.Opening.{opened_of}
-use Rattle.sheet.specs.declared.Opened.TheVariants.{Sheet}
-use Rattle.effects.specs.Effects.{room_turn, TurnPromise}
+use Rattle.effects.specs.Effects.{Answer, move, room_turn, TurnPromise}
 use Rattle.effects.specs.declared.Run.{Run}
-use Rattle.effects.specs.declared.Answer.{Answer}
-use Rattle.effects.specs.declared.Turn.TheVariants.{Move}
 use Rattle.sheet.specs.Layout.{operation_of}
 use Rattle.monitor.specs.Event.{EventPromise}
 
@@ -37,7 +32,7 @@ pub record Demand2 (d : Drawing) (sheet : List ℕ) : Type 0 where
   -- the rule is of its class
   pub of_class : OfClass d d.shape.class
   -- the sheet opens with the rule's N, K and initial state
-  pub opened : opened_of sheet ≡ Sheet (record { states = states d; events = events d; initial = state_no (initial d) })
+  pub opened : opened_of sheet ≡ Ok (record { states = states d; events = events d; initial = state_no (initial d) })
   -- at every state and code, the cell's operation and next state are the construction's, and no other's
   pub cells : (q e : ℕ) → q < states d → e < events d → (a : Operation) (t : ℕ)
       → BuiltMove d q e d.shape.class d.shape.mode a t
@@ -47,7 +42,7 @@ pub record Demand2 (d : Drawing) (sheet : List ℕ) : Type 0 where
   pub does : (run : Run) (e : EventNo) (memory output : List ℕ) → run.state.0 < states d → e.0 < events d → run.held ≤ length memory
       → (a : Operation) (t : ℕ) → BuiltMove d run.state.0 e.0 d.shape.class d.shape.mode a t
       → (r : Answer) (memory' output' : List ℕ) → EventPromise sheet run e memory output r memory' output'
-      → TurnPromise (room_turn (Move a (state_no t)) run.held (length memory) (length output)) run e memory output r memory' output'
+      → TurnPromise (room_turn (move a (state_no t)) run.held (length memory) (length output)) run e memory output r memory' output'
   -- the stopping states are the construction's, and they lead only to stopping states
   pub stops : (q : ℕ) → q < states d → BuiltStop d q d.shape.class d.shape.mode ↔ (stopping d q ≡ true)
   pub stays : (q e : ℕ) → q < states d → e < events d → BuiltStop d q d.shape.class d.shape.mode
@@ -57,15 +52,15 @@ pub record Demand2 (d : Drawing) (sheet : List ℕ) : Type 0 where
 -- row that holds
 pub record EveryRule : Type 0 where
   pub made : (f out : List ℕ) (w : Written) (out' : List ℕ) → MakePromise f out w out'
-      → (n : ℕ) → (w ≡ Done n) ↔ (NoRow (Making f (length out)) × (n ≡ length (sheet_of (drawing_in f))))
+      → (n : ℕ) → (w ≡ Ok n) ↔ (NoRow (Making f (length out)) × (n ≡ length (sheet_of (drawing_in f))))
   pub refused : (f out : List ℕ) (w : Written) (out' : List ℕ) → MakePromise f out w out'
-      → (x : Refusal) → (w ≡ Refused x) ↔ Given (Making f (length out)) x making_order
+      → (x : Refusal) → (w ≡ Err x) ↔ Given (Making f (length out)) x making_order
 
 -- and its files come back as they were
 pub record RoundTrips : Type 0 where
   -- a file that is read and written again, into any output with room, is byte for byte the same
-  pub read_written : (f : List ℕ) → Bytes f → (reading_of f).verdict ≡ Sound → (out : List ℕ) → length f ≤ length out
-      → (w : Written) (out' : List ℕ) → WritePromise (reading_of f).rule out w out' → (w ≡ Done (length f)) × (out' ≡ f ++ drop (length f) out)
+  pub read_written : (f : List ℕ) → Bytes f → (r : Rule) → reading_of f ≡ Ok r → (out : List ℕ) → length f ≤ length out
+      → (w : Written) (out' : List ℕ) → WritePromise r out w out' → (w ≡ Ok (length f)) × (out' ≡ f ++ drop (length f) out)
   -- a rule that is written and read again is the same rule, with 0 in its unused places
-  pub written_read : (r : Rule) → Held r → (out : List ℕ) (n : ℕ) (out' : List ℕ) → WritePromise r out (Done n) out'
-      → (reading_of (take n out') ≡ record { verdict = Sound; rule = rule_of (drawn r) }) × Same (rule_of (drawn r)) r
+  pub written_read : (r : Rule) → Held r → (out : List ℕ) (n : ℕ) (out' : List ℕ) → WritePromise r out (Ok n) out'
+      → (reading_of (take n out') ≡ Ok (rule_of (drawn r))) × Same (rule_of (drawn r)) r

@@ -7,15 +7,14 @@
 -- (specs/Ignored); the memory has one length.
 -- An evening of events in one call takes a history on as its single calls do (specs/Evening), so it holds of any mix of the two.
 -- Assumes nothing: this is a statement. proofs/Demand3 proves it.
-use Rattle.std.specs.Prelude.{ℕ, ◌≤◌, ◌<◌, ◌≡◌, true, ◌⊎◌, List, [], ◌∷◌, ◌++◌, length, take}
+use Rattle.std.specs.Prelude.{ℕ, ◌≤◌, ◌<◌, ◌≡◌, true, ◌⊎◌, List, [], ◌∷◌, ◌++◌, length, take, Some, Ok}
 use Rattle.rule.specs.Drawing.{Drawing, events, count, next, state_no}
 use Rattle.rule.specs.Acceptance.{accepts, Hopeless}
 use Rattle.rule.specs.declared.EventNo.{EventNo}
 use Rattle.rule.specs.declared.Operation.TheVariants.{Halt}
 use Rattle.monitor.specs.Event.{EventPromise}
 use Rattle.effects.specs.declared.Run.{Run}
-use Rattle.effects.specs.declared.Answer.{Answer}
-use Rattle.effects.specs.declared.Answer.TheVariants.{Taken}
+use Rattle.effects.specs.Effects.{Answer}
 use Rattle.history.specs.Course.{Entry, codes, before_halt}
 
 -- an event that was answered halt
@@ -39,4 +38,4 @@ pub record Demand3 (d : Drawing) (sheet : List ℕ) (log : List Entry) (released
   -- after a halt every event under K is taken and answered halt
   pub halted : (before after : List Entry) (c : ℕ) → log ≡ before ++ halting c ∷ after
       → (e : EventNo) → e.0 < events d → (output : List ℕ) (r : Answer) (memory' output' : List ℕ) → EventPromise sheet run e memory output r memory' output'
-      → r ≡ Taken Halt (record { state = state_no (next d run.state.0 e.0); held = run.held }) 0
+      → r ≡ Ok (Some (record { operation = Halt; run = record { state = state_no (next d run.state.0 e.0); held = run.held }; released = 0 }))

@@ -1,12 +1,11 @@
 -- M-101. An evening of up to 4,096 events in one call: it equals the single calls, each given the unwritten rest of the output; it takes a history on; two are
 -- one; and when it refuses. Demand 1 has what a refused one leaves.
 -- Assumes nothing: this is a statement. proofs/Evening proves it.
-use Rattle.std.specs.Prelude.{ℕ, ◌+◌, ◌≤◌, ◌<◌, ◌≡◌, true, ◌↔◌, List, [], ◌∷◌, ◌++◌, length, take, drop}
+use Rattle.std.specs.Prelude.{ℕ, ◌+◌, ◌≤◌, ◌<◌, ◌≡◌, true, ◌↔◌, List, [], ◌∷◌, ◌++◌, length, take, drop, Ok, Err}
 use Rattle.rule.specs.Given.{Given}
 use Rattle.rule.specs.Refusals.{told_of, among}
 use Rattle.rule.specs.declared.Refusal.{Refusal}
 use Rattle.rule.specs.declared.Refusal.TheVariants.{Memory, Room, Log}
-use Rattle.rule.specs.declared.Verdict.TheVariants.{Sound, Refused}
 use Rattle.rulefile.specs.Layout.{drawing_in}
 use Rattle.effects.specs.declared.Run.{Run}
 use Rattle.monitor.specs.Evening.{Entry, evening_of, EveningPromise, SingleCalls, both_of}
@@ -29,14 +28,14 @@ pub record OfEvenings (sheet : List ℕ) (run : Run) (log memory output : List �
   pub count_ignored : r.ignored ≡ length (evening_of sheet run log memory output).ignored
   pub count : r.taken + r.ignored ≡ length passed.front
   -- 19 exactly for a log over 4,096 events, ignored ones too, with nothing taken and nothing changed
-  pub too_long : (r.verdict ≡ Refused Log) ↔ (4096 < length log)
+  pub too_long : (r.verdict ≡ Err Log) ↔ (4096 < length log)
   -- an empty log gives 11 and 12
-  pub empty : log ≡ [] → (x : Refusal) → (r.verdict ≡ Refused x) ↔ Given (StandRow sheet run (length memory)) x stand_order
+  pub empty : log ≡ [] → (x : Refusal) → (r.verdict ≡ Err x) ↔ Given (StandRow sheet run (length memory)) x stand_order
   -- 11 and 12 cannot come after the first event
-  pub first_only : (x : Refusal) → r.verdict ≡ Refused x → among (told_of x).number stand_order ≡ true → (r.taken ≡ 0) × (r.ignored ≡ 0)
+  pub first_only : (x : Refusal) → r.verdict ≡ Err x → among (told_of x).number stand_order ≡ true → (r.taken ≡ 0) × (r.ignored ≡ 0)
   -- a memory, or an output, with a byte for each held event and each event of the log is always enough
-  pub memory_enough : run.held + length log ≤ length memory → r.verdict ≡ Refused Memory → ⊥
-  pub output_enough : run.held + length log ≤ length output → r.verdict ≡ Refused Room → ⊥
+  pub memory_enough : run.held + length log ≤ length memory → r.verdict ≡ Err Memory → ⊥
+  pub output_enough : run.held + length log ≤ length output → r.verdict ≡ Err Room → ⊥
 
 pub record EveningDemand : Type 0 where
   pub each : (sheet : List ℕ) (run : Run) (log memory output : List ℕ) (r : Evening) (memory' output' : List ℕ)
@@ -46,7 +45,7 @@ pub record EveningDemand : Type 0 where
       → SingleCalls sheet run (e ∷ es) memory output r memory' output' → EveningPromise sheet run (e ∷ es) memory output r memory' output'
   -- two evenings, the second on from the first with the rest of its output, are one with both logs, where that is not too long and the first was not refused
   pub two : (sheet : List ℕ) (a b : List ℕ) (run : Run) (memory output : List ℕ) → length (a ++ b) ≤ 4096
-      → (r : Evening) (memory₁ output₁ : List ℕ) → EveningPromise sheet run a memory output r memory₁ output₁ → r.verdict ≡ Sound
+      → (r : Evening) (memory₁ output₁ : List ℕ) → EveningPromise sheet run a memory output r memory₁ output₁ → r.verdict ≡ Ok tt
       → (s : Evening) (memory₂ output₂ : List ℕ) → EveningPromise sheet r.run b memory₁ (drop r.released output₁) s memory₂ output₂
       → EveningPromise sheet run (a ++ b) memory output (both_of r s) memory₂ (take r.released output₁ ++ output₂)
   -- an evening takes any history on to a history; so demand 3 holds after any mix of single calls and evenings since a fresh start on a made sheet

@@ -1,11 +1,9 @@
 -- DEMANDS 2 AND 3 FOR THE RULE FOUND. A rule that is kept in a book is looked up in the job's book and the office's (crate book), and what is handed back is
 -- the rule of the entry in force. Of it both demands hold as of any rule file; and a rule that `add` put in is one whose sheet can be made.
 -- Assumes nothing: these are statements. proofs/Found proves them.
-use Rattle.std.specs.Prelude.{ℕ, ◌<◌, ◌≡◌, cond, List, [], ◌∷◌, take, drop, eqb}
+use Rattle.std.specs.Prelude.{ℕ, ◌<◌, ◌≡◌, cond, List, [], ◌∷◌, take, drop, eqb, Ok}
 use Rattle.std.specs.Borrow.{Bor}
-use Rattle.rule.specs.declared.Verdict.TheVariants.{Sound}
 use Rattle.rulefile.specs.Layout.{drawing_in}
-use Rattle.rule.specs.declared.Written.TheVariants.{Done}
 use Rattle.book.specs.Book.{Filed, IsBookOf}
 use Rattle.book.specs.Finding.{lookup_of, verdict_by, FindPromise, times, InForce}
 use Rattle.book.specs.Adding.{AddPromise}
@@ -36,7 +34,7 @@ pub record RuleFound (job office : List Filed) (number age : ℕ) (part : List �
 pub data Grown : List ℕ → Type 0 where
   begun : Grown (0 ∷ 0 ∷ [])
   added : {b : List ℕ} → Grown b → (number : ℕ) → number < 256 → (rule out : List ℕ) (n : ℕ) (out' : List ℕ)
-      → AddPromise b number rule out (Done n) out' → Grown (take n out')
+      → AddPromise b number rule out (Ok n) out' → Grown (take n out')
 
 -- the part that C reads off an answer
 abbrev pub part_for_c : Found → (job office : List ℕ) → List ℕ
@@ -45,11 +43,11 @@ part_for_c r job office = take r.length (drop r.start (cond (eqb r.book 0) job o
 pub record FromBooks : Type 0 where
   -- of every two books: what `find` hands back, where the lookup is not refused
   pub found : (job office part : Bor (List ℕ)) (l m : List Filed) → IsBookOf job.now l → IsBookOf office.now m → (number age : ℕ)
-      → FindPromise job office number age part → verdict_by (lookup_of job.now office.now number age) ≡ Sound → RuleFound l m number age part.now
+      → FindPromise job office number age part → verdict_by (lookup_of job.now office.now number age) ≡ Ok tt → RuleFound l m number age part.now
   -- and what a C program finds
   pub c_found : (job office : List ℕ) (l m : List Filed) → IsBookOf job l → IsBookOf office m → (number age : ℕ) (r : Found)
       → FindForC job office number age r → r.refusal ≡ 0 → RuleFound l m number age (part_for_c r job office)
   -- of every two books that `add` has grown: the sheet of what is found can be made
   pub makes : (job office part : Bor (List ℕ)) → Grown job.now → Grown office.now → (number age : ℕ)
-      → FindPromise job office number age part → verdict_by (lookup_of job.now office.now number age) ≡ Sound
+      → FindPromise job office number age part → verdict_by (lookup_of job.now office.now number age) ≡ Ok tt
       → Made part.now (sheet_of (drawing_in part.now))

@@ -6,7 +6,7 @@ use Rattle.rule.specs.declared.Pair.{Pair}
 use Rattle.rule.specs.declared.Operation.{Operation}
 use Rattle.rule.specs.declared.Operation.TheVariants.{Halt, Store, Dump}
 use Rattle.sheet.specs.Layout.{sheet_of}
-use Rattle.monitor.specs.Fresh.{start_of}
+use Rattle.monitor.specs.Fresh.{start_run}
 use Rattle.effects.specs.Effects.{answer_in, memory_in, output_in}
 use Rattle.monitor.specs.Event.{turn_of}
 use Rattle.effects.specs.declared.Run.{Run}
@@ -62,7 +62,7 @@ abbrev pub eight : List ℕ
 eight = replicate 8 0
 
 abbrev pub begin : List ℕ → Stand
-begin sheet = record { log = []; released = []; run = (start_of sheet).run; memory = eight }
+begin sheet = record { log = []; released = []; run = start_run sheet; memory = eight }
 
 -- one call
 unfoldable pub one : List ℕ → Stand → ℕ → Stand

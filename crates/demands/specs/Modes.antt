@@ -1,20 +1,19 @@
 -- The two modes compared (M-105), of a rule file that is not refused: with one pair they are the same monitor; with several joint mode halts no later, and
 -- rule O of document 01, which held codes all night, is refused in it.
 -- Assumes nothing: these are statements. proofs/Modes proves them.
-use Rattle.std.specs.Prelude.{ℕ, ◌≤◌, ◌<◌, ◌≡◌, ◌↔◌, List}
+use Rattle.std.specs.Prelude.{ℕ, ◌≤◌, ◌<◌, ◌≡◌, ◌↔◌, List, Result, Ok, Err}
 use Rattle.rule.specs.Drawing.{states, events, count, in_mode}
 use Rattle.rule.specs.Operations.{operation}
 use Rattle.rule.specs.Range.{last_mode}
 use Rattle.rule.specs.Refusals.{tell, verdict_told}
 use Rattle.rule.specs.declared.Operation.TheVariants.{Halt, Store, Dump}
 use Rattle.rule.specs.declared.Refusal.{Refusal}
-use Rattle.rule.specs.declared.Verdict.TheVariants.{Sound}
 use Rattle.rulefile.specs.Layout.{drawing_in, file_of}
 use Rattle.rulefile.specs.Reading.{verdict_on}
 use Rattle.sheet.specs.Layout.{sheet_of}
 use Rattle.why.specs.Why.{WhyPromise}
 use Rattle.why.specs.declared.Ground.{Ground}
-use Rattle.why.specs.declared.Ground.TheVariants.{Halted, Held, Released, Refused}
+use Rattle.why.specs.declared.Ground.TheVariants.{Halted, Held, Released}
 use Rattle.demands.specs.Marked.{O}
 
 -- the file of the same rule in another mode
@@ -22,21 +21,22 @@ abbrev pub file_in : ℕ → List ℕ → List ℕ
 file_in mode f = file_of (in_mode mode (drawing_in f))
 
 -- two answers to why are alike: the same, but for the pair that a store names
-pub data Alike : Ground → Ground → Type 0 where
-  halted : {i : ℕ} → Alike (Halted i) (Halted i)
-  held : {i j n : ℕ} → Alike (Held i n) (Held j n)
-  released : Alike Released Released
-  refused : {r : Refusal} → Alike (Refused r) (Refused r)
+pub data Alike : Result Ground Refusal → Result Ground Refusal → Type 0 where
+  halted : {i : ℕ} → Alike (Ok (Halted i)) (Ok (Halted i))
+  held : {i j n : ℕ} → Alike (Ok (Held i n)) (Ok (Held j n))
+  released : Alike (Ok Released) (Ok Released)
+  refused : {r : Refusal} → Alike (Err r) (Err r)
 
 pub record Modes (f : List ℕ) : Type 0 where
   -- with one pair it is not refused in the other mode, and has the same sheet there
-  pub one_pair_sound : count (drawing_in f) ≡ 1 → (mode : ℕ) → mode ≤ last_mode → verdict_on (file_in mode f) ≡ Sound
+  pub one_pair_sound : count (drawing_in f) ≡ 1 → (mode : ℕ) → mode ≤ last_mode → verdict_on (file_in mode f) ≡ Ok tt
   pub one_pair_sheet : count (drawing_in f) ≡ 1 → (mode : ℕ) → mode ≤ last_mode → sheet_of (drawing_in (file_in mode f)) ≡ sheet_of (drawing_in f)
   -- and the same answers to why, but for the pair that a store names, with the same bytes
-  pub one_pair_why : count (drawing_in f) ≡ 1 → (mode : ℕ) → mode ≤ last_mode → (s e : ℕ) (out : List ℕ) (g g' : Ground) (out' out'' : List ℕ)
-      → WhyPromise f s e out g out' → WhyPromise (file_in mode f) s e out g' out'' → Alike g g' × (out' ≡ out'')
+  pub one_pair_why : count (drawing_in f) ≡ 1 → (mode : ℕ) → mode ≤ last_mode → (s e : ℕ) (out : List ℕ)
+      → (g g' : Result Ground Refusal) (out' out'' : List ℕ) → WhyPromise f s e out g out'
+      → WhyPromise (file_in mode f) s e out g' out'' → Alike g g' × (out' ≡ out'')
   -- with any number of pairs: a joint rule is not refused in mode 0
-  pub joint_sound : (drawing_in f).shape.mode ≡ 1 → verdict_on (file_in 0 f) ≡ Sound
+  pub joint_sound : (drawing_in f).shape.mode ≡ 1 → verdict_on (file_in 0 f) ≡ Ok tt
   -- the two modes dump together, and a halt of mode 0 is a halt of joint mode
   pub dumps : (q e : ℕ) → q < states (drawing_in f) → e < events (drawing_in f)
       → (operation (in_mode 0 (drawing_in f)) q e ≡ Dump) ↔ (operation (in_mode 1 (drawing_in f)) q e ≡ Dump)

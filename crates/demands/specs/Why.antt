@@ -2,7 +2,7 @@
 -- and it is the only one. And the way that a store is given works: on a sheet that `make` made, the events of the way, taken after the event, meet the pair,
 -- and with one pair, or in joint mode, the last of them is answered dump and everything held goes out.
 -- Assumes nothing: this is a statement. proofs/Why proves it.
-use Rattle.std.specs.Prelude.{ℕ, suc, ◌+◌, ◌/◌, ◌≤◌, ◌<◌, ◌≡◌, true, ◌⊎◌, ◌↔◌, List, [], ◌∷◌, ◌++◌, length, get_or, take}
+use Rattle.std.specs.Prelude.{ℕ, suc, ◌+◌, ◌/◌, ◌≤◌, ◌<◌, ◌≡◌, true, ◌⊎◌, ◌↔◌, List, [], ◌∷◌, ◌++◌, length, get_or, take, Result, Ok, Err}
 use Rattle.rule.specs.Drawing.{Drawing, states, events, count, next}
 use Rattle.rule.specs.Given.{NoPair}
 use Rattle.rule.specs.Operations.{operation_at}
@@ -11,7 +11,6 @@ use Rattle.rule.specs.WellDrawn.{WellDrawn}
 use Rattle.rule.specs.declared.Operation.TheVariants.{Halt, Store, Dump}
 use Rattle.rule.specs.declared.Refusal.{Refusal}
 use Rattle.rule.specs.declared.Refusal.TheVariants.{Room}
-use Rattle.rule.specs.declared.Verdict.TheVariants.{Sound}
 use Rattle.rulefile.specs.Layout.{drawing_in}
 use Rattle.sheet.specs.Layout.{operation_of}
 use Rattle.effects.specs.declared.Run.{Run}
@@ -22,7 +21,7 @@ use Rattle.history.specs.History.{History}
 use Rattle.why.specs.Grounds.{Unmet, Lost, HaltGround, goal, StoreGround}
 use Rattle.why.specs.Why.{Names, Says, WhyPromise}
 use Rattle.why.specs.declared.Ground.{Ground}
-use Rattle.why.specs.declared.Ground.TheVariants.{Held, Refused}
+use Rattle.why.specs.declared.Ground.TheVariants.{Held}
 use Rattle.demands.specs.Made.{Made}
 
 -- of every rule that is read or written, at each of its states: each operation exactly where it has its ground, and there is one
@@ -57,7 +56,7 @@ pub record WayWorks (d : Drawing) (i : ℕ) (log : List Entry) (released : List 
 -- what one call comes to that offers the event and then the events of the way
 pub record WayTaken (d : Drawing) (i : ℕ) (run : Run) (es memory : List ℕ) (r : Evening) (output' : List ℕ) : Type 0 where
   -- all are taken, and what was waited for is met
-  pub sound : r.verdict ≡ Sound
+  pub sound : r.verdict ≡ Ok tt
   pub all : r.taken ≡ length es
   pub met : goal d i r.run.state.0 ≡ true
   -- in joint mode, or with one pair, nothing is held then, and what was held, the event and the way have gone out
@@ -65,20 +64,21 @@ pub record WayTaken (d : Drawing) (i : ℕ) (run : Run) (es memory : List ℕ) (
 
 pub record WhyDemand : Type 0 where
   pub grounds : (d : Drawing) → WellDrawn d → (t : ℕ) → t < states d → OfGrounds d t
-  pub answers : (file : List ℕ) (s e : ℕ) (out : List ℕ) (g : Ground) (out' : List ℕ) → WhyPromise file s e out g out'
-      → ((x : Refusal) → g ≡ Refused x → ⊥) → OfAnswers file s e out g out'
+  pub answers : (file : List ℕ) (s e : ℕ) (out : List ℕ) (g : Ground) (out' : List ℕ) → WhyPromise file s e out (Ok g) out'
+      → OfAnswers file s e out g out'
   -- 63 bytes of room are always enough
-  pub room : (file : List ℕ) (s e : ℕ) (out : List ℕ) (g : Ground) (out' : List ℕ) → WhyPromise file s e out g out' → 63 ≤ length out → g ≡ Refused Room → ⊥
+  pub room : (file : List ℕ) (s e : ℕ) (out : List ℕ) (g : Result Ground Refusal) (out' : List ℕ) → WhyPromise file s e out g out' → 63 ≤ length out
+      → g ≡ Err Room → ⊥
   -- the way works: asked at the state of a history and an event, and then the event and the events of the way are taken, by whatever calls
   pub works : (file sheet : List ℕ) → Made file sheet
       → {log : List Entry} {released : List ℕ} {run : Run} {memory : List ℕ} → History sheet log released run memory
-      → (e : ℕ) (out : List ℕ) (i n : ℕ) (out' : List ℕ) → WhyPromise file run.state.0 e out (Held i n) out'
+      → (e : ℕ) (out : List ℕ) (i n : ℕ) (out' : List ℕ) → WhyPromise file run.state.0 e out (Ok (Held i n)) out'
       → {later : List Entry} {gone : List ℕ} {run' : Run} {memory' : List ℕ} → History sheet later gone run' memory'
       → codes later ≡ codes log ++ e ∷ take n out' → WayWorks (drawing_in file) i later gone run'
   -- and they are taken where the memory and the output have room for what is held and for them
   pub taken : (file sheet : List ℕ) → Made file sheet
       → {log : List Entry} {released : List ℕ} {run : Run} {memory : List ℕ} → History sheet log released run memory
-      → (e : ℕ) (out : List ℕ) (i n : ℕ) (out' : List ℕ) → WhyPromise file run.state.0 e out (Held i n) out'
+      → (e : ℕ) (out : List ℕ) (i n : ℕ) (out' : List ℕ) → WhyPromise file run.state.0 e out (Ok (Held i n)) out'
       → (output : List ℕ) → run.held + suc n ≤ length memory → run.held + suc n ≤ length output
       → (r : Evening) (memory' output' : List ℕ) → EveningPromise sheet run (e ∷ take n out') memory output r memory' output'
       → WayTaken (drawing_in file) i run (e ∷ take n out') memory r output'

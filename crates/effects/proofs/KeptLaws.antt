@@ -1,40 +1,55 @@
 -- What a turn leaves: one answer and one content of the buffers, and after a refusal the buffers as they were.
 -- Assumes nothing.
-use Prim.Native.Nat.{ℕ, ◌≤◌}
+use Prim.Native.Nat.{ℕ}
 use native.Mathlib.Omega.{arith}
-use mathlib.Core.Path.{◌≡◌, refl, sym, ap}
-use mathlib.Core.List.{List}
+use mathlib.Core.Path.{◌≡◌, refl, ap, ◌∙◌}
+use mathlib.Core.List.{List, [], ◌∷◌}
 use lib.ListN.{length}
+use Rattle.std.specs.Prelude.{Some, None, Result, Ok, Err}
 use Rattle.rule.specs.declared.StateNo.{StateNo}
 use Rattle.rule.specs.declared.EventNo.{EventNo}
-use Rattle.rule.specs.declared.Operation.TheVariants.{Halt, Store, Dump}
 use Rattle.rule.specs.declared.Refusal.{Refusal}
-use Rattle.effects.specs.Effects.{answer_in, memory_in, output_in, TurnPromise, StorePromise, DumpPromise}
+use Rattle.effects.specs.Effects.{Turn, move, answer_in, answered, memory_in, output_in, TurnPromise, StorePromise, DumpPromise}
 use Rattle.effects.specs.Effects.{OneAnswer, answer_told, StoreTable, store_order, DumpTable, dump_order}
 use Rattle.effects.specs.declared.Run.{Run}
-use Rattle.effects.specs.declared.Turn.{Turn}
-use Rattle.effects.specs.declared.Turn.TheVariants.{Move, Ignored, Refused as Away}
-use Rattle.effects.specs.declared.Answer.TheVariants.{Ignored as Overlooked, Refused}
+use Rattle.effects.specs.declared.Move.{Move}
+use Rattle.effects.specs.declared.Taken.{Taken}
 use Rattle.rule.specs.Given.{NoRow, NoRows, here, After, row, last, done, refused, Ends}
-use native.Mathlib.Decide.{dec_le}
-use borrow.Author.Tests.{le-leb, lt-leb}
-use Rattle.effects.specs.declared.Answer.{Answer}
+use Rattle.rule.proofs.BoolLaws.{Says, in_words, le_says, clash}
+use Rattle.rule.specs.Refusals.{tell, told_of}
+use Rattle.rule.specs.declared.Told.{Told}
+use Rattle.rule.specs.declared.Operation.{Operation}
+use Rattle.rule.specs.declared.Operation.TheVariants.{Store, Dump}
+use Rattle.rule.specs.declared.Refusal.TheVariants.{Memory, Room}
+use mathlib.Core.Bool.{Bool, true, false, cond}
+use lib.Dec.{leb}
 
 -- a refused answer comes of a refused turn
-pub away_of : (t : Turn) (held : ℕ) (x : Refusal) → Refused x ≡ answer_in t held → t ≡ Away x
-away_of (Away y) held x p = let e : x ≡ y = cc in ap Away (sym e)
-away_of Ignored held x p = absurd (let z : ◌≡◌ {A = ℕ} 0 1 = cc in omega arith)
-away_of (Move Halt s) held x p = absurd (let z : ◌≡◌ {A = ℕ} 0 1 = cc in omega arith)
-away_of (Move Store s) held x p = absurd (let z : ◌≡◌ {A = ℕ} 0 1 = cc in omega arith)
-away_of (Move Dump s) held x p = absurd (let z : ◌≡◌ {A = ℕ} 0 1 = cc in omega arith)
+pub away_of : (t : Turn) (held : ℕ) (x : Refusal) → Err x ≡ answer_in t held → t ≡ Err x
+away_of (Err y) held x p = cc
+away_of (Ok None) held x p = cc
+away_of (Ok (Some m)) held x p = cc
 
 -- an ignored answer comes of an ignored turn
-pub ignored_of : (t : Turn) (held : ℕ) → Overlooked ≡ answer_in t held → t ≡ Ignored
-ignored_of Ignored held p = refl
-ignored_of (Away y) held p = absurd (let z : ◌≡◌ {A = ℕ} 0 1 = cc in omega arith)
-ignored_of (Move Halt s) held p = absurd (let z : ◌≡◌ {A = ℕ} 0 1 = cc in omega arith)
-ignored_of (Move Store s) held p = absurd (let z : ◌≡◌ {A = ℕ} 0 1 = cc in omega arith)
-ignored_of (Move Dump s) held p = absurd (let z : ◌≡◌ {A = ℕ} 0 1 = cc in omega arith)
+pub ignored_of : (t : Turn) (held : ℕ) → Ok None ≡ answer_in t held → t ≡ Ok None
+ignored_of (Err y) held p = cc
+ignored_of (Ok None) held p = refl
+ignored_of (Ok (Some m)) held p = cc
+
+-- equal moves have equal operations, and lead to the same state
+pub move_one : {a b : Operation} {s t : StateNo} → move a s ≡ move b t → (a ≡ b) × (s ≡ t)
+move_one {a} {b} {s} {t} p =
+    let e : ◌≡◌ {A = Move} (record { operation = a; next = s }) (record { operation = b; next = t }) = cc in (
+      ap (λ (m : Move). m.operation) e,
+      ap (λ (m : Move). m.next) e,
+    )
+
+-- calls that ignore no event, with one answer, came to the same
+pub answered_one : (r s : Result Taken Refusal) → answered r ≡ answered s → r ≡ s
+answered_one (Ok a) (Ok b) p = cc
+answered_one (Ok a) (Err y) p = cc
+answered_one (Err x) (Ok b) p = cc
+answered_one (Err x) (Err y) p = cc
 
 -- a turn has one answer, and one memory and output after it
 pub turn_one : (t : Turn) (run : Run) (e : EventNo) (memory output : List ℕ) → OneAnswer (TurnPromise t run e memory output)
@@ -47,33 +62,32 @@ turn_one t run e memory output =
       only = λ r m out p. (p.answer, p.memory_after, p.output_after);
     }
 
--- a table with one row
-alone : {n : ℕ} {y : Refusal} {A : Type 0} → (A → ⊥) → NoRow (After NoRows n y A)
-alone not m x (row r) = elim r [ ]
-alone not m x (last a) = not a
+-- how a call with one row ends: it is refused exactly where its test holds, which says what the row says
+one_ends : {n : ℕ} {x : Refusal} {A Rest : Type 0} (b : Bool) → Says b A → {told : Told} → told ≡ cond b (told_of x) (tell 0 0 0) → (b ≡ true → Rest)
+    → Ends (After NoRows n x A) (n ∷ []) told Rest
+one_ends true says t rest = rw t (record { tells = refused (here (last (says.0 refl))); rest = λ n. rest refl })
+one_ends {n} {x} {A} false says t rest = rw t (record { tells = done none; rest = λ n. absurd (n refl) })
+  where
+    none : NoRow (After NoRows n x A)
+    none m y (row r) = elim r [ ]
+    none m y (last a) = clash (says.1 a) refl
+
+-- what a store or a dump tells: the refusal where its test holds
+step_told : (r : Result Taken Refusal) (b : Bool) (x : Refusal) (o : Operation) (t : StateNo) (held : ℕ)
+    → answered r ≡ answer_in (cond b (Err x) (move o t)) held → answer_told r ≡ cond b (told_of x) (tell 0 0 0)
+step_told (Ok a) true x o t held p = cc
+step_told (Ok a) false x o t held p = refl
+step_told (Err y) true x o t held p = let e : y ≡ x = cc in rw e
+step_told (Err y) false x o t held p = cc
 
 -- how a store and a dump end: a refused one leaves the memory, or the output, as it was
-pub store_ends : {next : StateNo} {run : Run} {e : EventNo} {memory : List ℕ} {r : Answer} {memory' : List ℕ} → StorePromise next run e memory r memory'
-    → Ends (StoreTable run.held (length memory)) store_order (answer_told r) (memory' ≡ memory)
-store_ends {run = run} {memory = memory} {r = r} {memory' = memory'} p = by (dec_le (length memory) run.held)
-  where
-    by : Dec (length memory ≤ run.held) → Ends (StoreTable run.held (length memory)) store_order (answer_told r) (memory' ≡ memory)
-    by (yes a) =
-        let full = le-leb (length memory) run.held a in
-        rw (p.answer, p.memory_after, full) (record { tells = refused (here (last a)); rest = λ n. refl })
-    by (no a) =
-        rw (p.answer, p.memory_after, lt-leb (length memory) run.held (omega arith)) (record { tells = done (alone a); rest = λ n. absurd (n refl) })
+pub store_ends : {next : StateNo} {run : Run} {e : EventNo} {memory : List ℕ} {r : Result Taken Refusal} {memory' : List ℕ}
+    → StorePromise next run e memory r memory' → Ends (StoreTable run.held (length memory)) store_order (answer_told r) (memory' ≡ memory)
+store_ends {next} {run} {memory = memory} {r = r} p =
+    one_ends (leb (length memory) run.held) (le_says _ _) (step_told r _ Memory Store next run.held p.answer) (λ full. p.memory_after ∙ rw full)
 
-pub dump_ends : {next : StateNo} {held : List ℕ} {e : EventNo} {output : List ℕ} {r : Answer} {output' : List ℕ} → DumpPromise next held e output r output'
-    → Ends (DumpTable (length held) (length output)) dump_order (answer_told r) (output' ≡ output)
-dump_ends {held = held} {output = output} {r = r} {output' = output'} p = by (dec_le (length output) (length held))
-  where
-    by : Dec (length output ≤ length held) → Ends (DumpTable (length held) (length output)) dump_order (answer_told r) (output' ≡ output)
-    by (yes a) =
-        let full = le-leb (length output) (length held) a in
-        rw (p.answer, p.output_after, full) (record { tells = refused (here (last (omega arith))); rest = λ n. refl })
-    by (no a) =
-        rw (p.answer, p.output_after, lt-leb (length output) (length held) (omega arith)) (record {
-          tells = done (alone (λ b. a (omega arith)));
-          rest = λ n. absurd (n refl);
-        })
+pub dump_ends : {next : StateNo} {held : List ℕ} {e : EventNo} {output : List ℕ} {r : Result Taken Refusal} {output' : List ℕ}
+    → DumpPromise next held e output r output' → Ends (DumpTable (length held) (length output)) dump_order (answer_told r) (output' ≡ output)
+dump_ends {next} {held} {output = output} {r = r} p =
+    one_ends (leb (length output) (length held)) (in_words (le_says _ _) (λ a. omega arith) (λ a. omega arith))
+    (step_told r _ Room Dump next (length held) p.answer) (λ full. p.output_after ∙ rw full)

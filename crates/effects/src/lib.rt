@@ -3,8 +3,7 @@
 
 ghost use Rattle.std.specs.Prelude.{◌≡◌};
 ghost use Rattle.rule.specs.declared.Operation.TheVariants.{Halt};
-ghost use Rattle.effects.specs.Effects.{answer_in, fresh_run, StorePromise, DumpPromise};
-ghost use Rattle.effects.specs.declared.Turn.TheVariants.{Move};
+ghost use Rattle.effects.specs.Effects.{fresh_run, taken_by, StorePromise, DumpPromise};
 
 use rule::{EventNo, Operation, Refusal, StateNo};
 
@@ -15,24 +14,21 @@ pub struct Run {
     pub held: usize,
 }
 
-// What one event comes to before the buffers are touched: a move with its operation; nothing, where it is not the rule's business; or a refusal.
+// A move: its operation, and the state that it leads to. An event comes to `Ok(Some(move))` before the buffers are touched, or to `Ok(None)` where it is
+// not the rule's business.
 #[derive(Clone, Copy)]
-pub enum Turn {
-    Move(Operation, StateNo),
-    Ignored,
-    Refused(Refusal),
+pub struct Move {
+    pub operation: Operation,
+    pub next: StateNo,
 }
 
-// What one event is answered: it was taken; or it was ignored, or refused, and nothing changed.
+// An event that was taken: its operation, the run after it, and how many bytes it released. An event is answered `Ok(Some(taken))`; `Ok(None)` where it
+// was ignored, and there as where it was refused nothing changed.
 #[derive(Clone, Copy)]
-pub enum Answer {
-    Taken {
-        operation: Operation,
-        run: Run,
-        released: usize,
-    },
-    Ignored,
-    Refused(Refusal),
+pub struct Taken {
+    pub operation: Operation,
+    pub run: Run,
+    pub released: usize,
 }
 
 impl Run {
@@ -48,10 +44,10 @@ impl Run {
 }
 
 // Halt: nothing is released and the event is not held; the events already held stay held.
-pub fn halt(next: StateNo, run: Run) -> Answer
-    ensures { result ≡ answer_in (Move Halt next) run.held }
+pub fn halt(next: StateNo, run: Run) -> Taken
+    ensures { result ≡ taken_by Halt next run.held }
 {
-    Answer::Taken {
+    Taken {
         operation: Operation::Halt,
         run: Run {
             state: next,
@@ -62,38 +58,37 @@ pub fn halt(next: StateNo, run: Run) -> Answer
 }
 
 // Store: the event joins the held ones, if the memory has a place for it.
-pub fn store(next: StateNo, run: Run, event: EventNo, memory: &mut [u8]) -> Answer
+pub fn store(next: StateNo, run: Run, event: EventNo, memory: &mut [u8]) -> Result<Taken, Refusal>
     ensures { StorePromise next run event memory.old result memory.new }
 {
     let held = run.held;
     if memory.len() <= held {
-        return Answer::Refused(Refusal::Memory);
+        return Err(Refusal::Memory);
     }
     memory[held] = event.0;
-    Answer::Taken {
+    Ok(Taken {
         operation: Operation::Store,
         run: Run {
             state: next,
             held: held + 1,
         },
         released: 0,
-    }
+    })
 }
 
 // Dump: the held events and then this one are released, if the output has a place for all of them.
-pub fn dump(next: StateNo, held: &[u8], event: EventNo, output: &mut [u8]) -> Answer
+pub fn dump(next: StateNo, held: &[u8], event: EventNo, output: &mut [u8]) -> Result<Taken, Refusal>
     ensures { DumpPromise next held.now event output.old result output.new }
 {
     let count = held.len();
     if output.len() <= count {
-        return Answer::Refused(Refusal::Room);
+        return Err(Refusal::Room);
     }
     octets::copy(held, output);
     output[count] = event.0;
-    let released = count + 1;
-    Answer::Taken {
+    Ok(Taken {
         operation: Operation::Dump,
         run: Run::new(next),
-        released,
-    }
+        released: count + 1,
+    })
 }

@@ -6,9 +6,9 @@ use native.Mathlib.Decide.{dec_lt}
 use mathlib.Core.List.{List, [], ◌∷◌, ◌++◌, append_assoc, append-nil}
 use lib.ListN.{length, take}
 use lib.Seq.{take-append_seam}
+use Rattle.std.specs.Prelude.{None, Some, Ok, Err}
 use Rattle.rule.specs.Drawing.{event_no}
 use Rattle.effects.specs.declared.Run.{Run}
-use Rattle.effects.specs.declared.Answer.TheVariants.{Taken, Ignored, Refused}
 use Rattle.monitor.specs.Evening.{Entry, Outcome, evening_of, EveningPromise, Calls, over, refused, ignored, taken}
 use Rattle.monitor.specs.declared.Evening.{Evening}
 use Rattle.monitor.proofs.CallsLaws.{calls_of_is}
@@ -30,13 +30,13 @@ module _ {sheet : List ℕ} where
       → {log : List Entry} {released : List ℕ} → History sheet log released run memory → After sheet log released x
   calls_history over h = no_more h
   calls_history (refused {e = e} {output = output} {x = x} {memory' = memory'} {output' = output'} p) h =
-      no_more (call h (event_no e) output (Refused x) memory' output' p)
+      no_more (call h (event_no e) output (Err x) memory' output' p)
   calls_history (ignored {e = e} {output = output} {memory' = memory'} {output' = output'} p c) h =
-      calls_history c (call h (event_no e) output Ignored memory' output' p)
-  calls_history (taken {e = e} {output = output} {o = o} {next = next} {n = n} {memory' = memory'} {output' = output'} {later = later} p c) {log} {released} h =
-      let entry : List Entry = record { code = e; operation = o } ∷ [] in
-      rw (append_assoc log entry later.taken, append_assoc released (take n output') later.released) at
-      (calls_history c (call h (event_no e) output (Taken o next n) memory' output' p))
+      calls_history c (call h (event_no e) output (Ok None) memory' output' p)
+  calls_history (taken {e = e} {output = output} {t = t} {memory' = memory'} {output' = output'} {later = later} p c) {log} {released} h =
+      let entry : List Entry = record { code = e; operation = t.operation } ∷ [] in
+      rw (append_assoc log entry later.taken, append_assoc released (take t.released output') later.released) at
+      (calls_history c (call h (event_no e) output (Ok (Some t)) memory' output' p))
 
   -- and so does an evening
   by_outcome : {log : List Entry} {released : List ℕ} {run : Run} {memory : List ℕ} → History sheet log released run memory

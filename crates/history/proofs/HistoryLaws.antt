@@ -4,13 +4,14 @@ use Prim.Native.Nat.{ℕ, ◌+◌, ◌*◌, ◌/◌, ◌%◌, ◌<◌, ◌≤◌
 use native.Mathlib.Omega.{arith}
 use native.Mathlib.Decide.{dec_le}
 use native.Mathlib.Numerals.{add-one}
-use mathlib.Core.Path.{◌≡◌, refl, sym, ap, ◌∙◌}
+use mathlib.Core.Path.{◌≡◌, refl, ap, ◌∙◌}
 use mathlib.Core.Bool.{true, false}
 use mathlib.Core.List.{List, [], ◌∷◌, ◌++◌, append-nil}
 use lib.ListN.{length, take, drop, get_or, length-append, length-set}
 use lib.Seq.{take_at, take-suc-set, length-take-le}
 use lib.Dec.{eqb}
 use borrow.Author.Tests.{le-ltb, le-leb, lt-leb}
+use Rattle.std.specs.Prelude.{None, Ok, Err}
 use Rattle.rule.specs.Drawing.{state_no}
 use Rattle.rule.specs.Operations.{mark_of}
 use Rattle.rule.specs.Reach.{after}
@@ -20,27 +21,20 @@ use Rattle.rule.specs.declared.Operation.{Operation}
 use Rattle.rule.specs.declared.Operation.TheVariants.{Halt, Store, Dump}
 use Rattle.rule.specs.declared.Refusal.{Refusal}
 use Rattle.rule.specs.declared.Refusal.TheVariants.{Memory, Room}
-use Rattle.rule.specs.declared.Verdict.TheVariants.{Sound}
 use Rattle.sheet.specs.Opening.{opened_of}
 use Rattle.sheet.specs.declared.Head.{Head}
-use Rattle.sheet.specs.declared.Opened.TheVariants.{Sheet}
-use Rattle.effects.specs.Effects.{fresh_run}
-use Rattle.monitor.specs.Fresh.{start_by}
-use Rattle.effects.specs.Effects.{room_turn, answer_in, memory_in, output_in}
+use Rattle.effects.specs.Effects.{fresh_run, room_turn, answer_in, memory_in, output_in, Turn, move}
 use Rattle.sheet.specs.Layout.{operation_of}
 use Rattle.monitor.specs.Event.{cell_turn, look_of, turn_of, step_turn}
 use Rattle.effects.specs.declared.Run.{Run}
-use Rattle.monitor.specs.declared.Start.{Start}
-use Rattle.effects.specs.declared.Turn.{Turn}
-use Rattle.effects.specs.declared.Turn.TheVariants.{Move, Ignored, Refused}
 use Rattle.history.specs.Course.{Entry, codes, released_by, held_by, Course, start, step, Kept, KeptSharp}
 use Rattle.history.specs.History.{History, fresh, call, others, log_after, run_after, released_after}
-use Rattle.history.proofs.CourseLaws.{course_kept, course_sharp, course_at, course_all, course_out, halted, halt_store, store_dump}
+use Rattle.history.proofs.CourseLaws.{course_kept, course_sharp, course_at, course_all, course_out, halted}
 
 -- the sheet is the machine's: it opens as the machine's numbers, and each cell is the machine's move
 pub record Drawn (m : Machine) (sheet : List ℕ) : Type 0 where
   pub few : m.states ≤ 64
-  pub opened : opened_of sheet ≡ Sheet (record { states = m.states; events = m.events; initial = state_no m.initial })
+  pub opened : opened_of sheet ≡ Ok (record { states = m.states; events = m.events; initial = state_no m.initial })
   pub cells : (q e : ℕ) → q < m.states → e < m.events → get_or sheet (q * m.events + e) 0 ≡ m.next q e + 64 * mark_of (m.operation (m.next q e))
 
 -- a mark is the operation's that it was made of, and never 3
@@ -56,9 +50,9 @@ mark_known Dump = refl
 
 -- what a call comes to, in the machine's terms
 data Seen (m : Machine) (q e held room : ℕ) : Turn → Type 0 where
-  away : (r : Refusal) → Seen m q e held room (Refused r)
-  past : Seen m q e held room Ignored
-  went : (o : Operation) → m.operation (m.next q e) ≡ o → e < m.events → (o ≡ Store → held < room) → Seen m q e held room (Move o (state_no (m.next q e)))
+  away : (r : Refusal) → Seen m q e held room (Err r)
+  past : Seen m q e held room (Ok None)
+  went : (o : Operation) → m.operation (m.next q e) ≡ o → e < m.events → (o ≡ Store → held < room) → Seen m q e held room (move o (state_no (m.next q e)))
 
 module _ (m : Machine) (L : Laws m) (sheet : List ℕ) (D : Drawn m sheet) where
   abbrev head : Head
@@ -75,12 +69,12 @@ module _ (m : Machine) (L : Laws m) (sheet : List ℕ) (D : Drawn m sheet) where
     cell = get_or sheet (run.state.0 * m.events + e.0) 0
 
     -- an event past the machine's is ignored
-    look_past : m.events ≤ e.0 → look_of head sheet run e (length memory) ≡ Ignored
+    look_past : m.events ≤ e.0 → look_of head sheet run e (length memory) ≡ Ok None
     unfolding look_of
     look_past k = simp (lt-leb _ _ v, le-ltb _ _ f, le-leb _ _ k)
 
     -- any other is the machine's move
-    cell_turn_is : e.0 < m.events → cell_turn cell m.states run e ≡ Move (m.operation to) (state_no to)
+    cell_turn_is : e.0 < m.events → cell_turn cell m.states run e ≡ move (m.operation to) (state_no to)
     unfolding cell_turn
     cell_turn_is k =
         let u = L.next_in run.state.0 e.0 v k in
@@ -89,24 +83,24 @@ module _ (m : Machine) (L : Laws m) (sheet : List ℕ) (D : Drawn m sheet) where
         let r : cell % 64 ≡ to = omega (arith, D.few) in
         simp (d, r, lt-leb _ _ u, mark_known, mark_back)
 
-    look_move : e.0 < m.events → look_of head sheet run e (length memory) ≡ Move (m.operation to) (state_no to)
+    look_move : e.0 < m.events → look_of head sheet run e (length memory) ≡ move (m.operation to) (state_no to)
     unfolding look_of
     look_move k = simp (lt-leb _ _ v, le-ltb _ _ f, lt-leb _ _ k) (cell_turn_is k)
 
     -- so an event comes to the machine's move, if there is room for what its operation writes
     pub turn_move : e.0 < m.events → (output : List ℕ)
-        → turn_of sheet run e memory output ≡ room_turn (Move (m.operation to) (state_no to)) run.held (length memory) (length output)
+        → turn_of sheet run e memory output ≡ room_turn (move (m.operation to) (state_no to)) run.held (length memory) (length output)
     turn_move k output =
         turn_is run e memory output
         ∙ ap (λ (t : Turn). room_turn t run.held (length memory) (length output)) (look_move k)
 
     see_room : (o : Operation) → m.operation to ≡ o → e.0 < m.events → (space : ℕ) → Dec (length memory ≤ run.held) → Dec (space ≤ run.held)
-        → Seen m run.state.0 e.0 run.held (length memory) (room_turn (Move o (state_no to)) run.held (length memory) space)
-    see_room Halt p k space a b = went Halt p k (λ h. absurd (halt_store refl h))
+        → Seen m run.state.0 e.0 run.held (length memory) (room_turn (move o (state_no to)) run.held (length memory) space)
+    see_room Halt p k space a b = went Halt p k (λ h. cc)
     see_room Store p k space (yes a) b = rw (le-leb _ _ a) (away Memory)
     see_room Store p k space (no a) b = let g : run.held < length memory = omega arith in rw (lt-leb _ _ g) (went Store p k (λ h. g))
     see_room Dump p k space a (yes b) = rw (le-leb _ _ b) (away Room)
-    see_room Dump p k space a (no b) = let g : run.held < space = omega arith in rw (lt-leb _ _ g) (went Dump p k (λ h. absurd (store_dump h refl)))
+    see_room Dump p k space a (no b) = let g : run.held < space = omega arith in rw (lt-leb _ _ g) (went Dump p k (λ h. cc))
 
     see_by : (output : List ℕ) → Dec (m.events ≤ e.0) → Seen m run.state.0 e.0 run.held (length memory) (step_turn head sheet run e memory output)
     see_by output (yes k) = rw (look_past k) past
@@ -158,8 +152,7 @@ module _ (m : Machine) (L : Laws m) (sheet : List ℕ) (D : Drawn m sheet) where
 
   follows : {log : List Entry} {released : List ℕ} {run : Run} {memory : List ℕ} → History sheet log released run memory → Follows log released run memory
   follows (fresh run memory s) =
-      let same : start_by (Sheet head) ≡ record { verdict = Sound; run = run } = ap start_by (sym D.opened) ∙ s in
-      let e : fresh_run (state_no m.initial) ≡ run = ap (λ (x : Start). x.run) same in
+      let e : fresh_run (state_no m.initial) ≡ run = cc (D.opened, s) in
       rw (← e) (record { course = start; valid = L.initial_in; within = omega arith })
   follows (call {log = log} {released = released} {run = run} {memory = memory} h e output r memory' output' p) =
       let f : Follows log released run memory = follows h in
@@ -170,7 +163,7 @@ module _ (m : Machine) (L : Laws m) (sheet : List ℕ) (D : Drawn m sheet) where
 
   -- on a history's run every event past the machine's is ignored
   pub history_ignores : {log : List Entry} {released : List ℕ} {run : Run} {memory : List ℕ} → History sheet log released run memory
-      → (e : EventNo) → m.events ≤ e.0 → (output : List ℕ) → turn_of sheet run e memory output ≡ Ignored
+      → (e : EventNo) → m.events ≤ e.0 → (output : List ℕ) → turn_of sheet run e memory output ≡ Ok None
   history_ignores {run = run} {memory = memory} h e k output =
       let f = follows h in
       turn_is run e memory output
@@ -188,12 +181,12 @@ module _ (m : Machine) (L : Laws m) (sheet : List ℕ) (D : Drawn m sheet) where
   pub history_halted : {log : List Entry} {released : List ℕ} {run : Run} {memory : List ℕ} → History sheet log released run memory
       → (before rest : List Entry) (c : ℕ) → log ≡ before ++ record { code = c; operation = Halt } ∷ rest
       → (e : EventNo) → e.0 < m.events → (output : List ℕ)
-      → turn_of sheet run e memory output ≡ Move Halt (state_no (m.next run.state.0 e.0))
+      → turn_of sheet run e memory output ≡ move Halt (state_no (m.next run.state.0 e.0))
   history_halted {run = run} {memory = memory} h before rest c p e k output =
       let f = follows h in
       let o : m.operation (m.next run.state.0 e.0) ≡ Halt = L.halt_stays _ _ f.valid k (halted m L f.course before rest c p) in
       turn_move run e memory f.valid f.within k output
-      ∙ ap (λ (x : Operation). room_turn (Move x (state_no (m.next run.state.0 e.0))) run.held (length memory) (length output)) o
+      ∙ ap (λ (x : Operation). room_turn (move x (state_no (m.next run.state.0 e.0))) run.held (length memory) (length output)) o
 
   -- it stands at the state after the codes that were taken, a state of the machine, and holds no more than the memory has
   pub history_at : {log : List Entry} {released : List ℕ} {run : Run} {memory : List ℕ} → History sheet log released run memory

@@ -7,22 +7,20 @@ use mathlib.Core.List.{List, [], ◌∷◌, ◌++◌}
 use lib.ListN.{length, take, drop, set, length-append, length-set, length-drop}
 use lib.Seq.{length-take-le, drop_at}
 use borrow.Author.Tests.{lt-leb}
+use Rattle.std.specs.Prelude.{Ok}
 use Rattle.rule.specs.Drawing.{state_no, event_no}
 use Rattle.rule.specs.Machine.{Machine, Laws}
 use Rattle.rule.specs.Reach.{Events, none, more}
 use Rattle.rule.specs.declared.Operation.{Operation}
 use Rattle.rule.specs.declared.Operation.TheVariants.{Halt, Store, Dump}
-use Rattle.rule.specs.declared.Verdict.TheVariants.{Sound}
-use Rattle.effects.specs.Effects.{room_turn, answer_in, memory_in, output_in}
+use Rattle.effects.specs.Effects.{room_turn, answer_in, memory_in, output_in, Turn, move}
 use Rattle.effects.specs.declared.Run.{Run}
-use Rattle.effects.specs.declared.Turn.{Turn}
-use Rattle.effects.specs.declared.Turn.TheVariants.{Move}
 use Rattle.monitor.specs.Evening.{Outcome, codes, go_on, calls_of}
 use Rattle.history.proofs.HistoryLaws.{Drawn, turn_move}
 
 -- all of these events are taken
 pub record AllTaken (es : List ℕ) (x : Outcome) : Type 0 where
-  pub verdict : x.verdict ≡ Sound
+  pub verdict : x.verdict ≡ Ok tt
   pub taken : codes x.taken ≡ es
 
 module _ (m : Machine) (L : Laws m) (sheet : List ℕ) (D : Drawn m sheet) where
@@ -42,7 +40,7 @@ module _ (m : Machine) (L : Laws m) (sheet : List ℕ) (D : Drawn m sheet) where
 
   step_taken : (e : ℕ) (es : List ℕ) (run : Run) (memory output : List ℕ) (to : ℕ) (o : Operation) → to < m.states → Goes es
       → run.held + suc (length es) ≤ length memory → run.held + suc (length es) ≤ length output
-      → AllTaken (e ∷ es) (goes es (room_turn (Move o (state_no to)) run.held (length memory) (length output)) e run memory output)
+      → AllTaken (e ∷ es) (goes es (room_turn (move o (state_no to)) run.held (length memory) (length output)) e run memory output)
   step_taken e es run memory output to Halt v on a b =
       let r = on (record { state = state_no to; held = run.held }) memory output (record { valid = v; memory_room = omega arith; output_room = omega arith }) in
       record { verdict = r.verdict; taken = ap (λ (l : List ℕ). e ∷ l) r.taken }

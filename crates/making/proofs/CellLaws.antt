@@ -1,18 +1,16 @@
 -- Laws of the cells and of the last six bytes: the loop that fills them, and the whole sheet.
 -- Assumes nothing.
-use Prim.Native.Nat.{ℕ, zero, suc, ◌+◌, ◌-◌, ◌*◌, ◌/◌, ◌%◌, ◌≤◌, ◌<◌}
+use Prim.Native.Nat.{ℕ, zero, suc, ◌+◌, ◌-◌, ◌*◌, ◌≤◌, ◌<◌}
 use native.Mathlib.Omega.{arith}
 use native.Mathlib.Numerals.{add-one}
 use mathlib.Core.Path.{◌≡◌, refl, sym, ap, ◌∙◌}
 use mathlib.Core.List.{List, [], ◌∷◌, ◌++◌, map, append-nil}
 use lib.ListN.{length, get_or, take, drop, set, length-append, length-map, drop_of_length-le}
-use lib.Seq.{take-suc, take_all, length-take-le}
+use lib.Seq.{take-suc, take_all, length-take-le, get_or-append-add, get_or-drop}
 use borrow.Rule.Slice.PartMut.{put_mid}
 use mir.Val.{Fits}
 use mir.Syntax.{w8}
 use Rattle.octets.specs.Numbers.{digits}
-use Rattle.octets.specs.Copies.{copied}
-use Rattle.octets.proofs.CopyLaws.{copied_full}
 use Rattle.octets.proofs.ListLaws.{store_more, part_more}
 use Rattle.rule.specs.Drawing.{Drawing, body}
 use Rattle.rule.specs.Operations.{mark_of}
@@ -25,11 +23,10 @@ use Rattle.operations.specs.Marks.{operation_in, marks_of}
 use Rattle.operations.specs.declared.Marks.{Marks}
 use Rattle.operations.proofs.MarkLaws.{marks_at}
 use Rattle.rule.specs.declared.Refusal.TheVariants.{Room}
-use Rattle.rule.specs.declared.Verdict.TheVariants.{Sound}
 use Rattle.rule.specs.Putting.{PutPromise}
-use Rattle.rule.specs.declared.Written.TheVariants.{Done, Refused}
 use Rattle.rule.proofs.PutLaws.{keeps_no_room, keeps_done}
 use Rattle.sheet.specs.Layout.{cell_of, end_of, sheet_of}
+use Rattle.std.specs.Prelude.{Ok, Err}
 
 -- an operation's number is at most 2, and 64 times it is a byte
 mark_small : (o : Operation) → mark_of o ≤ 2
@@ -50,29 +47,33 @@ module _ (marks : Marks) where
   map_snoc (y ∷ l) x = ap (λ (r : List ℕ). with_mark y ∷ r) (map_snoc l x)
 
   module _ (table : List ℕ) where
-    -- a cell is a byte
-    module _ (i : ℕ) (low : (i : ℕ) → get_or table i 0 < 64) where
-      pub cell_fits : {o : Operation} {x : ℕ} → o ≡ operation_in marks (get_or table i 0) → x ≡ mark_of o → Fits w8 (get_or table i 0 + 64 * x)
-      cell_fits {o} q e = omega (arith, low i, mark_small o)
+    pub cells_none : {out : List ℕ} → out ≡ table → out ≡ map with_mark (take 0 table) ++ drop 0 table
+    cells_none e = e
 
-    module _ (out out₀ : List ℕ) (i : ℕ) (e : out ≡ map with_mark (take i table) ++ drop i out₀) (n : length out₀ ≡ length table) where
-      pub cells_more : i < length table
-          → {o : Operation} {x : ℕ} → o ≡ operation_in marks (get_or table i 0) → x ≡ mark_of o
-          → set out i (get_or table i 0 + 64 * x) ≡ map with_mark (take (i + 1) table) ++ drop (i + 1) out₀
-      cells_more h is-o is_x =
-          let m : length (map with_mark (take i table)) ≡ i = length-map (take i table) with_mark ∙ length-take-le i table (omega arith) in
-          rw (e, is_x, is-o, add-one, take-suc table i 0, map_snoc)
-          (store_more (map with_mark (take i table)) out₀ i (with_mark (get_or table i 0)) 0 m (omega arith))
+    module _ (out : List ℕ) (i : ℕ) (e : out ≡ map with_mark (take i table) ++ drop i table) (h : i < length table) where
+      front_long : length (map with_mark (take i table)) ≡ i
+      front_long = length-map (take i table) with_mark ∙ length-take-le i table (omega arith)
 
-      pub cells_all : i ≤ length table → length table ≤ i → out ≡ map with_mark table
-      cells_all le ge =
-          e ∙ rw (take_all i table ge, drop_of_length-le out₀ {i = i} (omega arith)) (append-nil (map with_mark table))
+      -- the next byte is still the table's
+      untouched : get_or out i 0 ≡ get_or table i 0
+      untouched =
+          let z : i ≡ length (map with_mark (take i table)) + 0 = rw front_long (omega arith) in
+          rw e (ap (λ (k : ℕ). get_or (map with_mark (take i table) ++ drop i table) k 0) z
+          ∙ get_or-append-add (map with_mark (take i table)) (drop i table) 0 0 ∙ get_or-drop i table 0 0 ∙ ap (λ (k : ℕ). get_or table k 0) (omega arith))
 
--- the last six bytes
-pub end_written : (h : Shape) (out after : List ℕ) (x : ℕ) → length out ≡ 6 → x ≡ h.states * h.events + 6
-    → after ≡ copied (h.states ∷ h.events ∷ h.initial.0 ∷ 77 ∷ x % 256 ∷ x / 256 % 256 ∷ []) out → after ≡ end_of h
-unfolding digits
-end_written h out after x n q e = e ∙ copied_full _ out (sym n) ∙ rw q
+      -- a cell is a byte
+      pub cell_fits : ((i : ℕ) → get_or table i 0 < 64) → (o : Operation) {x : ℕ} → x ≡ mark_of o → Fits w8 (get_or out i 0 + 64 * x)
+      cell_fits low o q = omega (arith, untouched, low i, mark_small o)
+
+      pub cells_more : {o : Operation} {x : ℕ} → o ≡ operation_in marks (get_or out i 0) → x ≡ mark_of o
+          → set out i (get_or out i 0 + 64 * x) ≡ map with_mark (take (i + 1) table) ++ drop (i + 1) table
+      cells_more is-o is_x =
+          rw (is_x, is-o, untouched)
+          (rw (e, add-one, take-suc table i 0, map_snoc) (store_more (map with_mark (take i table)) table i (with_mark (get_or table i 0)) 0 front_long (omega arith)))
+
+    pub cells_all : (out : List ℕ) (i : ℕ) → out ≡ map with_mark (take i table) ++ drop i table → length table ≤ i → out ≡ map with_mark table
+    cells_all out i e ge =
+        e ∙ rw (take_all i table ge, drop_of_length-le table {i = i} (omega arith)) (append-nil (map with_mark table))
 
 -- two functions that agree below n make the same list of elements below n
 map_below : (n : ℕ) (f g : ℕ → ℕ) → ((t : ℕ) → t < n → f t ≡ g t) → (l : List ℕ) → ((i : ℕ) → get_or l i 0 < n) → map f l ≡ map g l
@@ -100,12 +101,12 @@ module _ (h : Shape) (table : List ℕ) (pairs : List Pair) (out : List ℕ) whe
   sheet_size : length table + 6 ≡ length (sheet_of (body h table pairs))
   sheet_size = sym (length_sheet (body h table pairs))
 
-  pub sheet_no_room : length out < length table + 6 → PutPromise Sound (sheet_of (body h table pairs)) out (Refused Room) out
+  pub sheet_no_room : length out < length table + 6 → PutPromise (Ok tt) (sheet_of (body h table pairs)) out (Err Room) out
   sheet_no_room l = keeps_no_room refl (rw sheet_size at l)
 
   pub sheet_put : {marks : Marks} {front end : List ℕ} → WellDrawn (body h table pairs) → ((i : ℕ) → get_or table i 0 < h.states)
       → length table + 6 ≤ length out → marks ≡ marks_of (body h table pairs) → front ≡ map (with_mark marks) table → end ≡ end_of h
-      → PutPromise Sound (sheet_of (body h table pairs)) out (Done (length table + 6))
+      → PutPromise (Ok tt) (sheet_of (body h table pairs)) out (Ok (length table + 6))
       (put_mid (length table) (length table + 6 - length table) (front ++ drop (length table) out) end)
   unfolding sheet_of digits
   sheet_put {marks} {front} {end} well low room is-marks is_front is-end =

@@ -17,7 +17,7 @@ use Rattle.rule.specs.declared.Shape.{Shape}
 use Rattle.rule.proofs.WayLaws.{closed_low}
 use Rattle.sheet.specs.Layout.{back, cell_of, end_of, sheet_of}
 use Rattle.sheet.specs.Opening.{opened_of}
-use Rattle.sheet.specs.declared.Opened.TheVariants.{Sheet}
+use Rattle.std.specs.Prelude.{Ok}
 use Rattle.sheet.proofs.OpeningLaws.{opened_when}
 use Rattle.making.proofs.CellLaws.{length_sheet}
 
@@ -86,7 +86,7 @@ module _ {d : Drawing} (f : Formed d) where
         rw sheet_cell (omega arith)
 
   -- it opens, with the N, K and initial state of the drawing
-  pub sheet_opens : opened_of (sheet_of d) ≡ Sheet (record { states = states d; events = events d; initial = d.shape.initial })
+  pub sheet_opens : opened_of (sheet_of d) ≡ Ok (record { states = states d; events = events d; initial = d.shape.initial })
   sheet_opens =
       let n : back (sheet_of d) 6 ≡ states d = at_end d 6 (omega arith) in
       let k : back (sheet_of d) 5 ≡ events d = at_end d 5 (omega arith) in

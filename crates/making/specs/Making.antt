@@ -5,7 +5,7 @@ use Rattle.rulefile.specs.Layout.{drawing_in}
 use Rattle.sheet.specs.Layout.{sheet_of}
 use Rattle.rulefile.specs.Reading.{verdict_on}
 use Rattle.rule.specs.Putting.{PutPromise}
-use Rattle.rule.specs.declared.Written.{Written}
+use Rattle.rule.specs.Verdict.{Written}
 
 -- the promise of making a sheet from a rule file
 abbrev pub MakePromise : List ℕ → List ℕ → Written → List ℕ → Type 0

@@ -4,13 +4,11 @@ use Prim.Native.Nat.{ℕ}
 use mathlib.Core.Path.{◌≡◌, refl, sym, ap, ◌∙◌}
 use mathlib.Core.List.{List, [], ◌∷◌, ◌++◌, append_assoc}
 use lib.ListN.{take, drop}
+use Rattle.std.specs.Prelude.{None, Some, Ok, Err}
 use Rattle.rule.specs.Drawing.{event_no}
-use Rattle.rule.specs.declared.Verdict.TheVariants.{Sound}
 use Rattle.rule.proofs.RefusalLaws.{not_both}
-use Rattle.effects.specs.Effects.{answer_in, memory_in, output_in}
+use Rattle.effects.specs.Effects.{answer_in, memory_in, output_in, Answer}
 use Rattle.effects.specs.declared.Run.{Run}
-use Rattle.effects.specs.declared.Answer.{Answer}
-use Rattle.effects.specs.declared.Answer.TheVariants.{Taken, Ignored, Refused as Declined}
 use Rattle.monitor.specs.Event.{turn_of, EventPromise}
 use Rattle.monitor.specs.Evening.{Entry, Outcome, joined, go_on, calls_of, Calls, over, refused, ignored, taken}
 
@@ -39,21 +37,21 @@ module _ (sheet : List ℕ) where
   pub calls_are : {run : Run} {log memory output : List ℕ} {x : Outcome} → Calls sheet run log memory output x → x ≡ calls_of sheet run log memory output
   unfolding calls_of
   calls_are over = refl
-  calls_are (refused {run} {e} {es} {memory} {output} {x} {memory'} {output'} p) = sym (calls_more run e es memory output (Declined x) memory' output' p)
+  calls_are (refused {run} {e} {es} {memory} {output} {x} {memory'} {output'} p) = sym (calls_more run e es memory output (Err x) memory' output' p)
   calls_are (ignored {run} {e} {es} {memory} {output} {memory'} {output'} p c) =
-      ap (joined [] [] (e ∷ [])) (calls_are c) ∙ sym (calls_more run e es memory output Ignored memory' output' p)
-  calls_are (taken {run} {e} {es} {memory} {output} {o} {next} {n} {memory'} {output'} p c) =
-      ap (joined (record { code = e; operation = o } ∷ []) (take n output') []) (calls_are c)
-      ∙ sym (calls_more run e es memory output (Taken o next n) memory' output' p)
+      ap (joined [] [] (e ∷ [])) (calls_are c) ∙ sym (calls_more run e es memory output (Ok None) memory' output' p)
+  calls_are (taken {run} {e} {es} {memory} {output} {t} {memory'} {output'} p c) =
+      ap (joined (record { code = e; operation = t.operation } ∷ []) (take t.released output') []) (calls_are c)
+      ∙ sym (calls_more run e es memory output (Ok (Some t)) memory' output' p)
 
   -- and there are calls that do
   calls_by : (run : Run) (e : ℕ) (es memory output : List ℕ)
       → ((next : Run) (left rest : List ℕ) → Calls sheet next es left rest (calls_of sheet next es left rest))
       → (r : Answer) (memory' output' : List ℕ) → EventPromise sheet run (event_no e) memory output r memory' output'
       → Calls sheet run (e ∷ es) memory output (go_on r e run memory' output' (later es))
-  calls_by run e es memory output go (Declined x) memory' output' p = refused p
-  calls_by run e es memory output go Ignored memory' output' p = ignored p (go run memory' output')
-  calls_by run e es memory output go (Taken o next n) memory' output' p = taken p (go next memory' (drop n output'))
+  calls_by run e es memory output go (Err x) memory' output' p = refused p
+  calls_by run e es memory output go (Ok None) memory' output' p = ignored p (go run memory' output')
+  calls_by run e es memory output go (Ok (Some t)) memory' output' p = taken p (go t.run memory' (drop t.released output'))
 
   pub calls_of_is : (run : Run) (log memory output : List ℕ) → Calls sheet run log memory output (calls_of sheet run log memory output)
   unfolding calls_of
@@ -63,21 +61,21 @@ module _ (sheet : List ℕ) where
 
   -- one log and then another: where no event of the first is refused, the second gets what the first left, the unwritten rest of the output too
   abbrev Appends : Outcome → (b : List ℕ) → Outcome → Type 0
-  Appends x b whole = x.verdict ≡ Sound → whole ≡ joined x.taken x.released x.ignored (calls_of sheet x.run b x.memory x.rest)
+  Appends x b whole = x.verdict ≡ Ok tt → whole ≡ joined x.taken x.released x.ignored (calls_of sheet x.run b x.memory x.rest)
 
   append_by : (e : ℕ) (a b : List ℕ) (run : Run)
       → ((next : Run) (left rest : List ℕ) → Appends (calls_of sheet next a left rest) b (calls_of sheet next (a ++ b) left rest))
       → (r : Answer) (memory' output' : List ℕ) → Appends (go_on r e run memory' output' (later a)) b (go_on r e run memory' output' (later (a ++ b)))
-  append_by e a b run go (Declined x) memory' output' p = not_both p refl
-  append_by e a b run go Ignored memory' output' p =
+  append_by e a b run go (Err x) memory' output' p = not_both p refl
+  append_by e a b run go (Ok None) memory' output' p =
       let x = calls_of sheet run a memory' output' in
       ap (joined [] [] (e ∷ [])) (go run memory' output' p)
       ∙ joined_joined [] x.taken [] x.released (e ∷ []) x.ignored (calls_of sheet x.run b x.memory x.rest)
-  append_by e a b run go (Taken o next n) memory' output' p =
-      let one : List Entry = record { code = e; operation = o } ∷ [] in
-      let x = calls_of sheet next a memory' (drop n output') in
-      ap (joined one (take n output') []) (go next memory' (drop n output') p)
-      ∙ joined_joined one x.taken (take n output') x.released [] x.ignored (calls_of sheet x.run b x.memory x.rest)
+  append_by e a b run go (Ok (Some t)) memory' output' p =
+      let one : List Entry = record { code = e; operation = t.operation } ∷ [] in
+      let x = calls_of sheet t.run a memory' (drop t.released output') in
+      ap (joined one (take t.released output') []) (go t.run memory' (drop t.released output') p)
+      ∙ joined_joined one x.taken (take t.released output') x.released [] x.ignored (calls_of sheet x.run b x.memory x.rest)
 
   pub calls_append : (a b : List ℕ) (run : Run) (memory output : List ℕ)
       → Appends (calls_of sheet run a memory output) b (calls_of sheet run (a ++ b) memory output)

@@ -11,13 +11,13 @@ use mathlib.Core.Logic.{◌↔◌, inr}
 use lib.ListN.{length, length-append}
 use lib.Seq.{drop-append_seam}
 use borrow.Author.Tests.{lt-ltb}
+use Rattle.std.specs.Prelude.{Ok, Err}
 use Rattle.rule.specs.Drawing.{event_no}
 use Rattle.rule.specs.Given.{Table, NoRow, Given, here, later, Ends}
 use Rattle.rule.specs.Refusals.{told_of, among, verdict_told}
 use Rattle.rule.specs.declared.Refusal.{Refusal}
 use Rattle.rule.specs.declared.Refusal.TheVariants.{Log}
-use Rattle.rule.specs.declared.Verdict.{Verdict}
-use Rattle.rule.specs.declared.Verdict.TheVariants.{Sound, Refused}
+use Rattle.rule.specs.Verdict.{Verdict}
 use Rattle.rule.proofs.BoolLaws.{clash}
 use Rattle.rule.proofs.NumberLaws.{among_says, among_ahead}
 use Rattle.rule.proofs.RefusalLaws.{not_both}
@@ -70,7 +70,7 @@ module _ (sheet : List ℕ) (run : Run) (memory output : List ℕ) where
   T log = EveningRow sheet run log memory output
 
   -- a log over 4,096 events
-  pub is_long : (log : List ℕ) → 4096 < length log → evening log ≡ idle run memory output (Refused Log)
+  pub is_long : (log : List ℕ) → 4096 < length log → evening log ≡ idle run memory output (Err Log)
   unfolding evening_of
   is_long log h = simp (lt-ltb _ _ h)
 
@@ -102,19 +102,19 @@ module _ (sheet : List ℕ) (run : Run) (memory output : List ℕ) where
     pub is_calls : evening (e ∷ es) ≡ calls_of sheet run (e ∷ es) memory output
     is_calls = is_short sheet run (e ∷ es) memory output short
 
-    row_given : (n : ℕ) (x : Refusal) → T (e ∷ es) n x → ((calls_of sheet run (e ∷ es) memory output).verdict ≡ Refused x) × ((told_of x).number ≡ n)
+    row_given : (n : ℕ) (x : Refusal) → T (e ∷ es) n x → ((calls_of sheet run (e ∷ es) memory output).verdict ≡ Err x) × ((told_of x).number ≡ n)
     row_given n x (too_long h) = absurd (omega (arith, h, short))
     row_given n x (no_event q r) = absurd (some_none q)
     row_given n x (event_refused s R q) = (ap (λ (y : Outcome). y.verdict) (found_ends sheet run (e ∷ es) memory output x R), q)
 
-    some_gives : (x : Refusal) → (calls_of sheet run (e ∷ es) memory output).verdict ≡ Refused x → Given (T (e ∷ es)) x evening_order
+    some_gives : (x : Refusal) → (calls_of sheet run (e ∷ es) memory output).verdict ≡ Err x → Given (T (e ∷ es)) x evening_order
     some_gives x p =
         let R = found sheet (e ∷ es) run memory output x p in
         only_given evening_order (listed (e ∷ es) x R) (event_refused short R refl)
         (λ k y r. let g = row_given k y r in let s : y ≡ x = cc in sym g.1 ∙ ap (λ (z : Refusal). (told_of z).number) s)
 
   -- what an evening gives
-  gives_by : (log : List ℕ) → Dec (4096 < length log) → (x : Refusal) → (evening log).verdict ≡ Refused x → Given (T log) x evening_order
+  gives_by : (log : List ℕ) → Dec (4096 < length log) → (x : Refusal) → (evening log).verdict ≡ Err x → Given (T log) x evening_order
   gives_by log (yes h) x p =
       let e : Log ≡ x = cc (is_long log h) in
       rw (← e) (here (too_long h))
@@ -126,10 +126,10 @@ module _ (sheet : List ℕ) (run : Run) (memory output : List ℕ) where
       (ahead cell_order ((a.gives x).0 (rw is_empty at p)))
   gives_by (e ∷ es) (no h) x p = let s : length (e ∷ es) ≤ 4096 = omega arith in some_gives e es s x (rw (is_calls e es s) at p)
 
-  pub evening_gives : (log : List ℕ) (x : Refusal) → (evening log).verdict ≡ Refused x → Given (T log) x evening_order
+  pub evening_gives : (log : List ℕ) (x : Refusal) → (evening log).verdict ≡ Err x → Given (T log) x evening_order
   evening_gives log = gives_by log (dec_lt 4096 (length log))
 
-  pub evening_sound : (log : List ℕ) → (evening log).verdict ≡ Sound → NoRow (T log)
+  pub evening_sound : (log : List ℕ) → (evening log).verdict ≡ Ok tt → NoRow (T log)
   evening_sound [] p n x r =
       (sound_exactly (stand_within sheet run (length memory)) (stand_rows sheet run (length memory))).0 (rw is_empty at p) n x (empty_row n x r)
   evening_sound (e ∷ es) p n x (too_long h) = not_both p (ap (λ (y : Outcome). y.verdict) (is_long (e ∷ es) h))
@@ -141,11 +141,11 @@ module _ (sheet : List ℕ) (run : Run) (memory output : List ℕ) where
     abbrev Kept : List ℕ → Type 0
     Kept log = EveningKept sheet run log memory output r memory' output'
 
-    kept_none : (log : List ℕ) (x : Refusal) → evening log ≡ idle run memory output (Refused x) → (length log ≤ 4096 → log ≡ [])
+    kept_none : (log : List ℕ) (x : Refusal) → evening log ≡ idle run memory output (Err x) → (length log ≤ 4096 → log ≡ [])
         → Reports (evening log) r memory' output' → Kept log
     unfolding calls_of
     kept_none log x i none p =
-        let P : Reports (idle run memory output (Refused x)) r memory' output' = rw i at p in
+        let P : Reports (idle run memory output (Err x)) r memory' output' = rw i at p in
         record {
           before = [];
           after = log;
@@ -178,7 +178,7 @@ module _ (sheet : List ℕ) (run : Run) (memory output : List ℕ) where
               rw (P.report, P.memory_after, P.output_after, drop-append_seam left.released left.rest) (rw (a, b) at c);
         }
 
-    kept_by : (log : List ℕ) → Dec (4096 < length log) → (x : Refusal) → (evening log).verdict ≡ Refused x → Reports (evening log) r memory' output' → Kept log
+    kept_by : (log : List ℕ) → Dec (4096 < length log) → (x : Refusal) → (evening log).verdict ≡ Err x → Reports (evening log) r memory' output' → Kept log
     kept_by log (yes h) x v p = kept_none log Log (is_long log h) (λ s. absurd (omega (arith, h, s))) p
     kept_by [] (no h) x v p = kept_none [] x (is_empty ∙ ap (idle run memory output) (rw is_empty at v)) (λ s. refl) p
     kept_by (e ∷ es) (no h) x v p =
@@ -194,7 +194,7 @@ module _ (sheet : List ℕ) (run : Run) (memory output : List ℕ) where
         (λ x q. (evening_gives log x (sym w ∙ q), kept_by log (dec_lt 4096 (length log)) x (sym w ∙ q) p))
 
   -- 19 exactly where the log is over 4,096 events
-  pub evening_19_when : (log : List ℕ) → ((evening log).verdict ≡ Refused Log) ↔ (4096 < length log)
+  pub evening_19_when : (log : List ℕ) → ((evening log).verdict ≡ Err Log) ↔ (4096 < length log)
   evening_19_when log = (λ p. by (own_row (evening_within log) (evening_gives log Log p)), λ h. ap (λ (y : Outcome). y.verdict) (is_long log h))
     where
       by : T log 19 Log → 4096 < length log
@@ -206,16 +206,16 @@ module _ (sheet : List ℕ) (run : Run) (memory output : List ℕ) where
           clash (turn_refuses sheet left.run (event_no R.event) left.memory left.rest Log t).one_of refl
 
   -- an empty log gives 11 and 12, and no other number
-  pub empty_when : (x : Refusal) → ((evening []).verdict ≡ Refused x) ↔ Given (StandRow sheet run (length memory)) x stand_order
+  pub empty_when : (x : Refusal) → ((evening []).verdict ≡ Err x) ↔ Given (StandRow sheet run (length memory)) x stand_order
   empty_when x = rw is_empty ((stand_rows sheet run (length memory)).gives x)
 
   -- with 11 or 12 no event was taken or ignored
-  pub first_alone : (log : List ℕ) (x : Refusal) → (evening log).verdict ≡ Refused x → among (told_of x).number stand_order ≡ true
+  pub first_alone : (log : List ℕ) (x : Refusal) → (evening log).verdict ≡ Err x → among (told_of x).number stand_order ≡ true
       → ((evening log).taken ≡ []) × ((evening log).ignored ≡ [])
   unfolding calls_of
   first_alone log = by log (dec_lt 4096 (length log))
     where
-      by : (log : List ℕ) → Dec (4096 < length log) → (x : Refusal) → (evening log).verdict ≡ Refused x → among (told_of x).number stand_order ≡ true
+      by : (log : List ℕ) → Dec (4096 < length log) → (x : Refusal) → (evening log).verdict ≡ Err x → among (told_of x).number stand_order ≡ true
           → ((evening log).taken ≡ []) × ((evening log).ignored ≡ [])
       by log (yes h) x p a = rw (is_long log h) (refl, refl)
       by [] (no h) x p a = rw is_empty (refl, refl)
@@ -231,10 +231,10 @@ module _ (sheet : List ℕ) (run : Run) (memory output : List ℕ) where
   none_passed log v i = rw i (record { front = []; rest = log; beginning = refl; taken = refl; ignored = refl })
 
   calls_passed : (log : List ℕ) (v : Verdict) → (calls_of sheet run log memory output).verdict ≡ v → SoFar sheet log (calls_of sheet run log memory output)
-  calls_passed log Sound p =
+  calls_passed log (Ok tt) p =
       let a = all_passed sheet log run memory output p in
       record { front = log; rest = []; beginning = sym (append-nil log); taken = a.0; ignored = a.1 }
-  calls_passed log (Refused x) p =
+  calls_passed log (Err x) p =
       let R = found sheet log run memory output x p in
       let a = all_passed sheet R.before run memory output R.none_refused in
       rw (found_ends sheet run log memory output x R)
@@ -244,6 +244,6 @@ module _ (sheet : List ℕ) (run : Run) (memory output : List ℕ) where
   evening_passed log = by log (dec_lt 4096 (length log))
     where
       by : (log : List ℕ) → Dec (4096 < length log) → SoFar sheet log (evening log)
-      by log (yes h) = none_passed log (Refused Log) (is_long log h)
+      by log (yes h) = none_passed log (Err Log) (is_long log h)
       by [] (no h) = none_passed [] _ is_empty
       by (e ∷ es) (no h) = rw (is_calls e es (omega arith)) (calls_passed (e ∷ es) _ refl)

@@ -1,11 +1,12 @@
 -- The first event of an evening that is refused: it is found where the calls are refused, and ends them; no event after the first is refused 11 or 12.
 -- Assumes nothing.
-use Prim.Native.Nat.{ℕ, ◌+◌, ◌<◌}
+use Prim.Native.Nat.{ℕ, ◌<◌}
 use native.Mathlib.Omega.{arith}
 use mathlib.Core.Path.{◌≡◌, refl, ap, ◌∙◌}
 use mathlib.Core.Bool.{true}
 use mathlib.Core.List.{List, [], ◌∷◌, append-nil}
-use lib.ListN.{length, drop, set, length-set}
+use lib.ListN.{length, take, drop, set, length-set}
+use Rattle.std.specs.Prelude.{None, Some, Ok, Err}
 use Rattle.rule.specs.Drawing.{event_no}
 use Rattle.rule.specs.Given.{NoRow, Given}
 use Rattle.rule.specs.Refusals.{told_of, among}
@@ -13,40 +14,27 @@ use Rattle.rule.specs.declared.StateNo.{StateNo}
 use Rattle.rule.specs.declared.Operation.{Operation}
 use Rattle.rule.specs.declared.Operation.TheVariants.{Halt, Store, Dump}
 use Rattle.rule.specs.declared.Refusal.{Refusal}
-use Rattle.rule.specs.declared.Verdict.TheVariants.{Sound, Refused}
 use Rattle.rule.proofs.BoolLaws.{clash}
 use Rattle.rule.proofs.RefusalLaws.{not_both}
 use Rattle.rule.proofs.TableLaws.{own_row, sound_exactly}
 use Rattle.sheet.specs.Opening.{opened_of}
 use Rattle.sheet.specs.Layout.{head_in}
 use borrow.Author.Tests.{le-ltb, lt-ltb}
-use Rattle.effects.specs.Effects.{answer_in, memory_in, output_in}
+use Rattle.effects.specs.Effects.{taken_by, answer_in, memory_by, memory_in, output_in, Turn, Answer}
 use Rattle.effects.specs.declared.Run.{Run}
-use Rattle.effects.specs.declared.Turn.{Turn}
-use Rattle.effects.specs.declared.Turn.TheVariants.{Move, Ignored, Refused as Away}
-use Rattle.effects.specs.declared.Answer.{Answer}
-use Rattle.effects.specs.declared.Answer.TheVariants.{Taken, Ignored as Overlooked, Refused as Declined}
 use Rattle.effects.proofs.KeptLaws.{away_of}
 use Rattle.monitor.specs.Event.{turn_of, EventPromise}
-use Rattle.monitor.specs.Evening.{codes, Outcome, joined, go_on, calls_of, stands_by}
+use Rattle.monitor.specs.Evening.{Entry, codes, Outcome, joined, go_on, calls_of, stands_by}
 use Rattle.monitor.specs.Given.{StandRow, stand_order, opening, state_past, held_past, operation_3, next_past, memory_full, output_short}
 use Rattle.monitor.specs.Given.{EventRow, event_order, standing, reading, next_read, operation_read, RefusedAt}
 use Rattle.monitor.specs.Known.{known, remarks}
 use Rattle.monitor.proofs.CallsLaws.{later, calls_more, kept_by_turn, calls_append}
 use Rattle.monitor.proofs.GivenLaws.{stand_within, stand_rows, event_within, refused_when, taken_when, event_ignores}
+use Rattle.effects.specs.declared.Taken.{Taken}
 
 -- the calls up to a refusal, and then it
 abbrev pub stopped : Outcome → Refusal → Outcome
-stopped x r =
-    record {
-      taken = x.taken;
-      released = x.released;
-      ignored = x.ignored;
-      run = x.run;
-      memory = x.memory;
-      rest = x.rest;
-      verdict = Refused r;
-    }
+stopped x r = record x { verdict = Err r }
 
 -- a log with an event in it is not the empty one
 pub some_none : {e : ℕ} {es : List ℕ} → e ∷ es ≡ [] → ⊥
@@ -56,18 +44,33 @@ module _ (sheet : List ℕ) where
   -- a refused call changes nothing
   pub refused_call : (run : Run) (e : ℕ) (memory output : List ℕ) (x : Refusal)
       → Given (EventRow sheet run (event_no e) (length memory) (length output)) x event_order
-      → EventPromise sheet run (event_no e) memory output (Declined x) memory output
+      → EventPromise sheet run (event_no e) memory output (Err x) memory output
   refused_call run e memory output x g =
       let t = (refused_when sheet run (event_no e) memory output x).1 g in
       record { answer = rw t; memory_after = rw t; output_after = rw t }
 
+  -- the first event that is refused after one that is not
+  one_before : {run : Run} {e : ℕ} {es memory output : List ℕ} {x : Refusal} {next : Run} {left rest : List ℕ} (R : RefusedAt sheet next es left rest x)
+      (taken : List Entry) (released ignored : List ℕ)
+      → calls_of sheet run (e ∷ R.before) memory output ≡ joined taken released ignored (calls_of sheet next R.before left rest)
+      → RefusedAt sheet run (e ∷ es) memory output x
+  one_before {e = e} R taken released ignored m =
+      record {
+        before = e ∷ R.before;
+        event = R.event;
+        after = R.after;
+        whole = ap (λ (l : List ℕ). e ∷ l) R.whole;
+        none_refused = ap (λ (y : Outcome). y.verdict) m ∙ R.none_refused;
+        refused = rw m R.refused;
+      }
+
   -- where the calls are refused there is a first event that is
   found_by : (run : Run) (e : ℕ) (es memory output : List ℕ) (x : Refusal)
-      → ((next : Run) (left rest : List ℕ) → (calls_of sheet next es left rest).verdict ≡ Refused x → RefusedAt sheet next es left rest x)
+      → ((next : Run) (left rest : List ℕ) → (calls_of sheet next es left rest).verdict ≡ Err x → RefusedAt sheet next es left rest x)
       → (r : Answer) (memory' output' : List ℕ) → EventPromise sheet run (event_no e) memory output r memory' output'
-      → (go_on r e run memory' output' (later sheet es)).verdict ≡ Refused x → RefusedAt sheet run (e ∷ es) memory output x
+      → (go_on r e run memory' output' (later sheet es)).verdict ≡ Err x → RefusedAt sheet run (e ∷ es) memory output x
   unfolding calls_of
-  found_by run e es memory output x go (Declined y) memory' output' p q =
+  found_by run e es memory output x go (Err y) memory' output' p q =
       let s : y ≡ x = cc in
       let t = away_of (turn_of sheet run (event_no e) memory output) run.held y p.answer in
       record {
@@ -76,32 +79,16 @@ module _ (sheet : List ℕ) where
         after = es;
         whole = refl;
         none_refused = refl;
-        refused = (refused_when sheet run (event_no e) memory output x).0 (t ∙ ap Away s);
+        refused = (refused_when sheet run (event_no e) memory output x).0 (t ∙ ap Err s);
       }
-  found_by run e es memory output x go Overlooked memory' output' p q =
-      let R = go run memory' output' q in
-      let m = calls_more sheet run e R.before memory output Overlooked memory' output' p in
-      record {
-        before = e ∷ R.before;
-        event = R.event;
-        after = R.after;
-        whole = ap (λ (l : List ℕ). e ∷ l) R.whole;
-        none_refused = ap (λ (y : Outcome). y.verdict) m ∙ R.none_refused;
-        refused = rw m R.refused;
-      }
-  found_by run e es memory output x go (Taken o next n) memory' output' p q =
-      let R = go next memory' (drop n output') q in
-      let m = calls_more sheet run e R.before memory output (Taken o next n) memory' output' p in
-      record {
-        before = e ∷ R.before;
-        event = R.event;
-        after = R.after;
-        whole = ap (λ (l : List ℕ). e ∷ l) R.whole;
-        none_refused = ap (λ (y : Outcome). y.verdict) m ∙ R.none_refused;
-        refused = rw m R.refused;
-      }
+  found_by run e es memory output x go (Ok None) memory' output' p q =
+      let R = go run memory' output' q in one_before R [] [] (e ∷ []) (calls_more sheet run e R.before memory output (Ok None) memory' output' p)
+  found_by run e es memory output x go (Ok (Some t)) memory' output' p q =
+      let R = go t.run memory' (drop t.released output') q in
+      one_before R (record { code = e; operation = t.operation } ∷ []) (take t.released output') []
+      (calls_more sheet run e R.before memory output (Ok (Some t)) memory' output' p)
 
-  pub found : (log : List ℕ) (run : Run) (memory output : List ℕ) (x : Refusal) → (calls_of sheet run log memory output).verdict ≡ Refused x
+  pub found : (log : List ℕ) (run : Run) (memory output : List ℕ) (x : Refusal) → (calls_of sheet run log memory output).verdict ≡ Err x
       → RefusedAt sheet run log memory output x
   unfolding calls_of
   found [] run memory output x p = not_both refl p
@@ -117,42 +104,42 @@ module _ (sheet : List ℕ) where
       ap (λ (l : List ℕ). calls_of sheet run l memory output) R.whole
       ∙ calls_append sheet R.before (R.event ∷ R.after) run memory output R.none_refused
       ∙ ap (joined left.taken left.released left.ignored)
-      (calls_more sheet left.run R.event R.after left.memory left.rest (Declined x) left.memory left.rest p)
+      (calls_more sheet left.run R.event R.after left.memory left.rest (Err x) left.memory left.rest p)
       ∙ rw (append-nil left.taken, append-nil left.released, append-nil left.ignored)
 
   abbrev K : ℕ
   K = (head_in sheet).events
 
   -- an event that is taken is under K
-  pub taken_under : {run : Run} {e : ℕ} {memory output : List ℕ} {o : Operation} {next : Run} {n : ℕ} {memory' output' : List ℕ}
-      → EventPromise sheet run (event_no e) memory output (Taken o next n) memory' output' → e < K
-  taken_under {run} {e} {memory} {output} {o} {next} {n} p = by _ refl p.answer
+  pub taken_under : {run : Run} {e : ℕ} {memory output : List ℕ} {t : Taken} {memory' output' : List ℕ}
+      → EventPromise sheet run (event_no e) memory output (Ok (Some t)) memory' output' → e < K
+  taken_under {run} {e} {memory} {output} {t} p = by _ refl p.answer
     where
-      by : (t : Turn) → turn_of sheet run (event_no e) memory output ≡ t → Taken o next n ≡ answer_in t run.held → e < K
-      by (Away y) q a = absurd (let z : ◌≡◌ {A = ℕ} 0 1 = cc in omega arith)
-      by Ignored q a = absurd (let z : ◌≡◌ {A = ℕ} 0 1 = cc in omega arith)
-      by (Move o' s) q a = ((taken_when sheet run (event_no e) memory output o' s).0 q).1
+      by : (u : Turn) → turn_of sheet run (event_no e) memory output ≡ u → Ok (Some t) ≡ answer_in u run.held → e < K
+      by (Err y) q a = cc
+      by (Ok None) q a = cc
+      by (Ok (Some m)) q a = ((taken_when sheet run (event_no e) memory output m.operation m.next).0 q).1
 
   -- where no event is refused, all of the log is taken but what is not under K, and that is ignored
   abbrev All : Outcome → List ℕ → Type 0
   All x log = (codes x.taken ≡ known K log) × (x.ignored ≡ remarks K log)
 
   all_by : (e : ℕ) (es : List ℕ) (run : Run) (memory output : List ℕ)
-      → ((next : Run) (left rest : List ℕ) → (calls_of sheet next es left rest).verdict ≡ Sound → All (calls_of sheet next es left rest) es)
+      → ((next : Run) (left rest : List ℕ) → (calls_of sheet next es left rest).verdict ≡ Ok tt → All (calls_of sheet next es left rest) es)
       → (r : Answer) (memory' output' : List ℕ) → EventPromise sheet run (event_no e) memory output r memory' output'
-      → let x = go_on r e run memory' output' (later sheet es) in x.verdict ≡ Sound → All x (e ∷ es)
+      → let x = go_on r e run memory' output' (later sheet es) in x.verdict ≡ Ok tt → All x (e ∷ es)
   unfolding known remarks
-  all_by e es run memory output go (Declined y) memory' output' p v = not_both v refl
-  all_by e es run memory output go Overlooked memory' output' p v =
+  all_by e es run memory output go (Err y) memory' output' p v = not_both v refl
+  all_by e es run memory output go (Ok None) memory' output' p v =
       let k = le-ltb _ _ ((event_ignores sheet run (event_no e) memory output p).exactly.0 refl).1 in
       let i = go run memory' output' v in
       (rw k i.0, rw k (ap (λ (l : List ℕ). e ∷ l) i.1))
-  all_by e es run memory output go (Taken o next n) memory' output' p v =
+  all_by e es run memory output go (Ok (Some t)) memory' output' p v =
       let k = lt-ltb _ _ (taken_under p) in
-      let i = go next memory' (drop n output') v in
+      let i = go t.run memory' (drop t.released output') v in
       (rw k (ap (λ (l : List ℕ). e ∷ l) i.0), rw k i.1)
 
-  pub all_passed : (log : List ℕ) (run : Run) (memory output : List ℕ) → (calls_of sheet run log memory output).verdict ≡ Sound
+  pub all_passed : (log : List ℕ) (run : Run) (memory output : List ℕ) → (calls_of sheet run log memory output).verdict ≡ Ok tt
       → All (calls_of sheet run log memory output) log
   unfolding calls_of known remarks
   all_passed [] run memory output p = (refl, refl)
@@ -168,56 +155,50 @@ module _ (sheet : List ℕ) where
     stand_next next room s held n x (held_past a) = held a
 
     stand_by : (o : Operation) (t : StateNo) → operation_read sheet run (event_no e) ≡ o → next_read sheet run (event_no e) ≡ t
-        → (b : Operation) (next : Run) (n : ℕ) → Taken b next n ≡ answer_in (Move o t) run.held
-        → NoRow (StandRow sheet next (length (memory_in (Move o t) run.held e memory)))
-    stand_by Halt t q s b next n a =
-        let h : next ≡ record { state = t; held = run.held } = cc in
-        rw h (stand_next (record { state = t; held = run.held }) (length memory) s (λ l. none _ _ (standing (held_past l))))
-    stand_by Store t q s b next n a =
-        let h : next ≡ record { state = t; held = run.held + 1 } = cc in
+        → NoRow (StandRow sheet (taken_by o t run.held).run (length (memory_by o run.held e memory)))
+    stand_by Halt t q s = stand_next (taken_by Halt t run.held).run (length memory) s (λ l. none _ _ (standing (held_past l)))
+    stand_by Store t q s =
         let long : length (set memory run.held e) ≡ length memory = simp length-set in
-        rw h (stand_next (record { state = t; held = run.held + 1 }) _ s (λ l. none _ _ (reading under (memory_full q (omega (arith, l, long))))))
-    stand_by Dump t q s b next n a =
-        let h : next ≡ record { state = t; held = 0 } = cc in
-        rw h (stand_next (record { state = t; held = 0 }) (length memory) s (λ l. omega (arith, l)))
+        stand_next (taken_by Store t run.held).run _ s (λ l. none _ _ (reading under (memory_full q (omega (arith, l, long)))))
+    stand_by Dump t q s = stand_next (taken_by Dump t run.held).run (length memory) s (λ l. omega (arith, l))
 
-  pub taken_stands : (run : Run) (e : ℕ) (memory output : List ℕ) (o : Operation) (next : Run) (n : ℕ) (memory' output' : List ℕ)
-      → EventPromise sheet run (event_no e) memory output (Taken o next n) memory' output' → stands_by (opened_of sheet) next (length memory') ≡ Sound
-  taken_stands run e memory output o next n memory' output' p = by _ refl p.answer p.memory_after
+  pub taken_stands : (run : Run) (e : ℕ) (memory output : List ℕ) (t : Taken) (memory' output' : List ℕ)
+      → EventPromise sheet run (event_no e) memory output (Ok (Some t)) memory' output' → stands_by (opened_of sheet) t.run (length memory') ≡ Ok tt
+  taken_stands run e memory output t memory' output' p = by _ refl p.answer p.memory_after
     where
-      by : (t : Turn) → turn_of sheet run (event_no e) memory output ≡ t → Taken o next n ≡ answer_in t run.held → memory' ≡ memory_in t run.held e memory
-          → stands_by (opened_of sheet) next (length memory') ≡ Sound
-      by (Away y) q a m = absurd (let z : ◌≡◌ {A = ℕ} 0 1 = cc in omega arith)
-      by Ignored q a m = absurd (let z : ◌≡◌ {A = ℕ} 0 1 = cc in omega arith)
-      by (Move o' t) q a m =
-          let w = (taken_when sheet run (event_no e) memory output o' t).0 q in
-          (sound_exactly (stand_within sheet next (length memory')) (stand_rows sheet next (length memory'))).1
-          (rw m (stand_by run e memory output w.0 w.1 o' t w.2 w.3 o next n a))
+      by : (u : Turn) → turn_of sheet run (event_no e) memory output ≡ u → Ok (Some t) ≡ answer_in u run.held → memory' ≡ memory_in u run.held e memory
+          → stands_by (opened_of sheet) t.run (length memory') ≡ Ok tt
+      by (Err y) q a m = cc
+      by (Ok None) q a m = cc
+      by (Ok (Some u)) q a m =
+          let w = (taken_when sheet run (event_no e) memory output u.operation u.next).0 q in
+          let same : t ≡ taken_by u.operation u.next run.held = cc in
+          rw (same, m) ((sound_exactly (stand_within sheet _ _) (stand_rows sheet _ _)).1 (stand_by run e memory output w.0 w.1 u.operation u.next w.2 w.3))
 
   -- and so is the run of an event that is ignored
   pub ignored_stands : (run : Run) (e : ℕ) (memory output memory' output' : List ℕ)
-      → EventPromise sheet run (event_no e) memory output Overlooked memory' output' → stands_by (opened_of sheet) run (length memory) ≡ Sound
+      → EventPromise sheet run (event_no e) memory output (Ok None) memory' output' → stands_by (opened_of sheet) run (length memory) ≡ Ok tt
   ignored_stands run e memory output memory' output' p =
       (sound_exactly (stand_within sheet run (length memory)) (stand_rows sheet run (length memory))).1
       ((event_ignores sheet run (event_no e) memory output p).exactly.0 refl).0
 
   -- so after a log with an event in it, none refused, it is
   abbrev pub Stands : Outcome → Type 0
-  Stands x = x.verdict ≡ Sound → stands_by (opened_of sheet) x.run (length x.memory) ≡ Sound
+  Stands x = x.verdict ≡ Ok tt → stands_by (opened_of sheet) x.run (length x.memory) ≡ Ok tt
 
   stand_on_by : (e : ℕ) (es : List ℕ) (run : Run) (memory output : List ℕ)
-      → ((next : Run) (left rest : List ℕ) → stands_by (opened_of sheet) next (length left) ≡ Sound → Stands (calls_of sheet next es left rest))
+      → ((next : Run) (left rest : List ℕ) → stands_by (opened_of sheet) next (length left) ≡ Ok tt → Stands (calls_of sheet next es left rest))
       → (r : Answer) (memory' output' : List ℕ) → EventPromise sheet run (event_no e) memory output r memory' output'
       → Stands (go_on r e run memory' output' (later sheet es))
-  stand_on_by e es run memory output go (Declined y) memory' output' p q = not_both q refl
-  stand_on_by e es run memory output go Overlooked memory' output' p q =
+  stand_on_by e es run memory output go (Err y) memory' output' p q = not_both q refl
+  stand_on_by e es run memory output go (Ok None) memory' output' p q =
       let i = event_ignores sheet run (event_no e) memory output p in
-      let s : stands_by (opened_of sheet) run (length memory') ≡ Sound = rw (i.memory_kept refl) (ignored_stands run e memory output memory' output' p) in
+      let s : stands_by (opened_of sheet) run (length memory') ≡ Ok tt = rw (i.memory_kept refl) (ignored_stands run e memory output memory' output' p) in
       go run memory' output' s q
-  stand_on_by e es run memory output go (Taken o next n) memory' output' p q =
-      go next memory' (drop n output') (taken_stands run e memory output o next n memory' output' p) q
+  stand_on_by e es run memory output go (Ok (Some t)) memory' output' p q =
+      go t.run memory' (drop t.released output') (taken_stands run e memory output t memory' output' p) q
 
-  pub stand_on : (es : List ℕ) (run : Run) (memory output : List ℕ) → (es ≡ [] → stands_by (opened_of sheet) run (length memory) ≡ Sound)
+  pub stand_on : (es : List ℕ) (run : Run) (memory output : List ℕ) → (es ≡ [] → stands_by (opened_of sheet) run (length memory) ≡ Ok tt)
       → Stands (calls_of sheet run es memory output)
   unfolding calls_of
   stand_on [] run memory output s p = s refl
@@ -240,7 +221,7 @@ module _ (sheet : List ℕ) where
 
   -- no event but the first is refused with one of these
   pub first_only : (run : Run) (memory output : List ℕ) (x : Refusal) → among (told_of x).number stand_order ≡ true → (before : List ℕ) (event : ℕ)
-      → let left = calls_of sheet run before memory output in left.verdict ≡ Sound
+      → let left = calls_of sheet run before memory output in left.verdict ≡ Ok tt
       → Given (EventRow sheet left.run (event_no event) (length left.memory) (length left.rest)) x event_order → before ≡ []
   first_only run memory output x a [] event s g = refl
   first_only run memory output x a (b ∷ bs) event s g =

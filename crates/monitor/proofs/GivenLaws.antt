@@ -9,6 +9,7 @@ use mathlib.Core.Logic.Iff
 use mathlib.Core.Logic.{◌⊎◌, inl, inr, ⊎_elim, ◌↔◌}
 use lib.ListN.{length}
 use lib.Dec.{leb, ltb, eqb}
+use Rattle.std.specs.Prelude.{None, Some, Ok, Err}
 use Rattle.rule.specs.Refusals.{Numbered, among, refuse_if, or_else}
 use Rattle.rule.specs.Given.{Table, NoRow, Given, done, refused, Ends}
 use Rattle.rule.specs.declared.StateNo.{StateNo}
@@ -17,8 +18,7 @@ use Rattle.rule.specs.declared.Operation.{Operation}
 use Rattle.rule.specs.declared.Operation.TheVariants.{Halt, Store, Dump}
 use Rattle.rule.specs.declared.Refusal.{Refusal}
 use Rattle.rule.specs.declared.Refusal.TheVariants.{Sheet as NoSheet, Run as BadRun, Cell, Memory, Room}
-use Rattle.rule.specs.declared.Verdict.{Verdict}
-use Rattle.rule.specs.declared.Verdict.TheVariants.{Sound, Refused as Unsound}
+use Rattle.rule.specs.Verdict.{Verdict}
 use Rattle.rule.proofs.BoolLaws.{Says, clash, eq_says, le_says, lt_says, and_says, or_says, fails_say, le_fails}
 use borrow.Author.Tests.{le-leb, lt-leb, leb-true, leb-false}
 use Rattle.rule.proofs.RefusalLaws.{not_both}
@@ -26,15 +26,10 @@ use Rattle.rule.proofs.TableLaws.{Within, Decides, Answers, decided, end, then, 
 use Rattle.sheet.specs.Given.{BadSheet}
 use Rattle.sheet.specs.Layout.{head_in}
 use Rattle.sheet.specs.Opening.{opens, opened_of}
-use Rattle.sheet.specs.declared.Opened.TheVariants.{Sheet, Refused as Shut}
 use Rattle.sheet.proofs.OpeningLaws.{shut_says}
-use Rattle.effects.specs.Effects.{room_turn, answer_in, answer_told, memory_in, output_in}
+use Rattle.effects.specs.Effects.{room_turn, answer_in, answer_told, memory_in, output_in, Turn, Answer, move}
 use Rattle.effects.specs.declared.Run.{Run}
-use Rattle.effects.specs.declared.Turn.{Turn}
-use Rattle.effects.specs.declared.Turn.TheVariants.{Move, Ignored, Refused}
-use Rattle.effects.specs.declared.Answer.{Answer}
-use Rattle.effects.specs.declared.Answer.TheVariants.{Ignored as Overlooked}
-use Rattle.effects.proofs.KeptLaws.{ignored_of}
+use Rattle.effects.proofs.KeptLaws.{ignored_of, move_one}
 use Rattle.monitor.specs.Event.{unfit, cell_turn, look_of, turn_by, turn_of, EventPromise}
 use Rattle.monitor.specs.Evening.{stands_by}
 use Rattle.monitor.specs.Given.{cell_read, operation_read, next_read, bad_sheet, stand_order, StandRow, opening, state_past, held_past}
@@ -42,28 +37,26 @@ use Rattle.monitor.specs.Given.{operation_3, next_past, memory_full, output_shor
 
 -- what a turn refuses
 abbrev saying : Turn → Verdict
-saying (Refused x) = Unsound x
-saying Ignored = Sound
-saying (Move o s) = Sound
+saying (Err x) = Err x
+saying (Ok o) = Ok tt
 
-saying_refused : (t : Turn) (x : Refusal) → (t ≡ Refused x) ↔ (saying t ≡ Unsound x)
-saying_refused (Refused y) x = (λ p. cc, λ p. cc)
-saying_refused Ignored x = (λ p. absurd (let z : ◌≡◌ {A = ℕ} 0 1 = cc in omega arith), not_both refl)
-saying_refused (Move o s) x = (λ p. absurd (let z : ◌≡◌ {A = ℕ} 0 1 = cc in omega arith), not_both refl)
+saying_refused : (t : Turn) (x : Refusal) → (t ≡ Err x) ↔ (saying t ≡ Err x)
+saying_refused (Err y) x = (λ p. cc, λ p. cc)
+saying_refused (Ok o) x = (λ p. cc, not_both refl)
 
 -- of the rows with these numbers the turn refuses by the first that holds, and else it comes to this
 record Turns (T : Table) (order : List ℕ) (s t : Turn) : Type 0 where
   rows : Answers T order (saying t)
-  comes : saying t ≡ Sound → t ≡ s
+  comes : saying t ≡ Ok tt → t ≡ s
 
 module _ {T : Table} {s : Turn} where
   test : (n : ℕ) (x : Refusal) {A : Type 0} {b : Bool} {l : List ℕ} {t : Turn} → Says b A → (A → T n x) → ((y : Refusal) → T n y → (x ≡ y) × A)
-      → Turns T l s t → Turns T (n ∷ l) s (cond b (Refused x) t)
+      → Turns T l s t → Turns T (n ∷ l) s (cond b (Err x) t)
   test n x {b = b} {l = l} {t = t} says to from r = by b (decided T n says to from)
     where
-      by : (b : Bool) → Decides T n (refuse_if b x) → Turns T (n ∷ l) s (cond b (Refused x) t)
-      by true iff = record { rows = then {w = Sound} (Unsound x) iff (λ p. not_both p refl); comes = λ p. not_both p refl }
-      by false iff = record { rows = then Sound iff (λ _. r.rows); comes = r.comes }
+      by : (b : Bool) → Decides T n (refuse_if b x) → Turns T (n ∷ l) s (cond b (Err x) t)
+      by true iff = record { rows = then {w = Ok tt} (Err x) iff (λ p. not_both p refl); comes = λ p. not_both p refl }
+      by false iff = record { rows = then (Ok tt) iff (λ _. r.rows); comes = r.comes }
 
 abbrev is_store : Operation → Bool
 is_store Halt = false
@@ -114,11 +107,11 @@ stand_rows sheet run room =
     (λ _. then (refuse_if (unfit (head_in sheet) run room) BadRun)
     (decided (StandRow sheet run room) 12 (or_says (le_says (head_in sheet).states run.state.0) (lt_says room run.held)) past stand_12) (λ _. end)))
   where
-    by : (a : Bool) → stands_by (cond a (Sheet (head_in sheet)) Shut) run room
-        ≡ or_else (refuse_if (not a) NoSheet) (or_else (refuse_if (unfit (head_in sheet) run room) BadRun) Sound)
+    by : (a : Bool) → stands_by (cond a (Ok (head_in sheet)) (Err NoSheet)) run room
+        ≡ or_else (refuse_if (not a) NoSheet) (or_else (refuse_if (unfit (head_in sheet) run room) BadRun) (Ok tt))
     by true = fine (unfit (head_in sheet) run room)
       where
-        fine : (b : Bool) → refuse_if b BadRun ≡ or_else (refuse_if b BadRun) Sound
+        fine : (b : Bool) → refuse_if b BadRun ≡ or_else (refuse_if b BadRun) (Ok tt)
         fine true = refl
         fine false = refl
     by false = refl
@@ -150,25 +143,25 @@ module _ (sheet : List ℕ) (run : Run) (e : EventNo) (memory output : List ℕ)
 
   -- an event that no row refuses: ignored, or moved
   abbrev unrefused : (past : Bool) → Operation → StateNo → Turn
-  unrefused past o n = cond past Ignored (Move o n)
+  unrefused past o n = cond past (Ok None) (move o n)
 
   -- the tests in order
   abbrev tested : Turn
   tested =
-      cond (not (opens sheet)) (Refused NoSheet)
-      (cond (leb N run.state.0 || ltb (length memory) run.held) (Refused BadRun)
-      (cond (not (leb K e.0) && (eqb (cell / 64) 3 || leb N (cell % 64))) (Refused (Cell run.state e))
-      (cond (not (leb K e.0) && (is_store o && leb (length memory) run.held)) (Refused Memory)
-      (cond (not (leb K e.0) && (is_dump o && leb (length output) run.held)) (Refused Room)
+      cond (not (opens sheet)) (Err NoSheet)
+      (cond (leb N run.state.0 || ltb (length memory) run.held) (Err BadRun)
+      (cond (not (leb K e.0) && (eqb (cell / 64) 3 || leb N (cell % 64))) (Err (Cell run.state e))
+      (cond (not (leb K e.0) && (is_store o && leb (length memory) run.held)) (Err Memory)
+      (cond (not (leb K e.0) && (is_dump o && leb (length output) run.held)) (Err Room)
       (unrefused (leb K e.0) o (next_read sheet run e))))))
 
   -- those for room come last
   room_last : (b c d : Bool) (o : Operation) (n : StateNo)
-      → room_turn (cond b (Refused BadRun) (cond c Ignored (cond d (Refused (Cell run.state e)) (Move o n))))
+      → room_turn (cond b (Err BadRun) (cond c (Ok None) (cond d (Err (Cell run.state e)) (move o n))))
       run.held (length memory) (length output)
-      ≡ cond b (Refused BadRun) (cond (not c && d) (Refused (Cell run.state e))
-      (cond (not c && (is_store o && leb (length memory) run.held)) (Refused Memory)
-      (cond (not c && (is_dump o && leb (length output) run.held)) (Refused Room) (unrefused c o n))))
+      ≡ cond b (Err BadRun) (cond (not c && d) (Err (Cell run.state e))
+      (cond (not c && (is_store o && leb (length memory) run.held)) (Err Memory)
+      (cond (not c && (is_dump o && leb (length output) run.held)) (Err Room) (unrefused c o n))))
   room_last true c d o n = refl
   room_last false true d o n = refl
   room_last false false true o n = refl
@@ -182,8 +175,8 @@ module _ (sheet : List ℕ) (run : Run) (e : EventNo) (memory output : List ℕ)
       by (opens sheet)
       ∙ rw (room_last (leb N run.state.0 || ltb (length memory) run.held) (leb K e.0) (eqb (cell / 64) 3 || leb N (cell % 64)) o _)
     where
-      by : (a : Bool) → turn_by (cond a (Sheet (head_in sheet)) Shut) sheet run e memory output
-          ≡ cond (not a) (Refused NoSheet) (room_turn (look_of (head_in sheet) sheet run e (length memory)) run.held (length memory) (length output))
+      by : (a : Bool) → turn_by (cond a (Ok (head_in sheet)) (Err NoSheet)) sheet run e memory output
+          ≡ cond (not a) (Err NoSheet) (room_turn (look_of (head_in sheet) sheet run e (length memory)) run.held (length memory) (length output))
       by true = refl
       by false = refl
 
@@ -229,49 +222,49 @@ module _ (sheet : List ℕ) (run : Run) (e : EventNo) (memory output : List ℕ)
       (over (leb K e.0) o (next_read sheet run e)))))))
 
   -- each refusal is given exactly when its row holds and no earlier one does
-  pub refused_when : (x : Refusal) → (turn_of sheet run e memory output ≡ Refused x) ↔ Given T x event_order
+  pub refused_when : (x : Refusal) → (turn_of sheet run e memory output ≡ Err x) ↔ Given T x event_order
   refused_when x = Iff.trans (saying_refused (turn_of sheet run e memory output) x) (turns.rows.gives x)
 
   -- where no row holds, an event under K is taken, with the operation and the next state of the cell that is read, and any other is ignored
-  comes_to : (t : Turn) → turn_of sheet run e memory output ≡ t → saying t ≡ Sound → NoRow T × (unrefused (leb K e.0) o (next_read sheet run e) ≡ t)
+  comes_to : (t : Turn) → turn_of sheet run e memory output ≡ t → saying t ≡ Ok tt → NoRow T × (unrefused (leb K e.0) o (next_read sheet run e) ≡ t)
   comes_to t p q =
-      let s : saying (turn_of sheet run e memory output) ≡ Sound = rw p q in
+      let s : saying (turn_of sheet run e memory output) ≡ Ok tt = rw p q in
       ((sound_exactly event_within turns.rows).0 s, sym (turns.comes s) ∙ p)
 
   comes_from : NoRow T → turn_of sheet run e memory output ≡ unrefused (leb K e.0) o (next_read sheet run e)
   comes_from none = turns.comes ((sound_exactly event_within turns.rows).1 none)
 
   pub taken_when : (a : Operation) (t : StateNo)
-      → (turn_of sheet run e memory output ≡ Move a t) ↔ (NoRow T × (e.0 < K) × (o ≡ a) × (next_read sheet run e ≡ t))
+      → (turn_of sheet run e memory output ≡ move a t) ↔ (NoRow T × (e.0 < K) × (o ≡ a) × (next_read sheet run e ≡ t))
   taken_when a t = (
-    λ p. let c = comes_to (Move a t) p refl in let m = to (leb K e.0) refl c.1 in (c.0, m.0, m.1, m.2),
+    λ p. let c = comes_to (move a t) p refl in let m = to (leb K e.0) refl c.1 in (c.0, m.0, m.1, m.2),
     λ p. comes_from p.0 ∙ rw (lt-leb _ _ p.1, p.2, p.3),
   )
     where
-      to : (b : Bool) → leb K e.0 ≡ b → unrefused b o (next_read sheet run e) ≡ Move a t → (e.0 < K) × (o ≡ a) × (next_read sheet run e ≡ t)
-      to true q m = absurd (let z : ◌≡◌ {A = ℕ} 0 1 = cc in omega arith)
-      to false q m = (leb-false _ _ q, cc, cc)
+      to : (b : Bool) → leb K e.0 ≡ b → unrefused b o (next_read sheet run e) ≡ move a t → (e.0 < K) × (o ≡ a) × (next_read sheet run e ≡ t)
+      to true q m = cc
+      to false q m = let e = move_one m in (leb-false _ _ q, e.0, e.1)
 
   -- with no cell read, the only rows are those of the run
   unread : K ≤ e.0 → NoRow (StandRow sheet run (length memory)) → NoRow T
   unread k none n x (standing r) = none n x r
   unread k none n x (reading u r) = omega (arith, k, u)
 
-  pub ignored_when : (turn_of sheet run e memory output ≡ Ignored) ↔ (NoRow (StandRow sheet run (length memory)) × (K ≤ e.0))
+  pub ignored_when : (turn_of sheet run e memory output ≡ Ok None) ↔ (NoRow (StandRow sheet run (length memory)) × (K ≤ e.0))
   ignored_when = (
-    λ p. let c = comes_to Ignored p refl in (λ n x r. c.0 n x (standing r), to (leb K e.0) refl c.1),
+    λ p. let c = comes_to (Ok None) p refl in (λ n x r. c.0 n x (standing r), to (leb K e.0) refl c.1),
     λ p. comes_from (unread p.1 p.0) ∙ rw (le-leb _ _ p.1),
   )
     where
-      to : (b : Bool) → leb K e.0 ≡ b → unrefused b o (next_read sheet run e) ≡ Ignored → K ≤ e.0
+      to : (b : Bool) → leb K e.0 ≡ b → unrefused b o (next_read sheet run e) ≡ Ok None → K ≤ e.0
       to true q m = leb-true _ _ q
-      to false q m = absurd (let z : ◌≡◌ {A = ℕ} 0 1 = cc in omega arith)
+      to false q m = cc
 
   pub event_ignores : {r : Answer} {memory' output' : List ℕ} → EventPromise sheet run e memory output r memory' output'
       → Ignores sheet run e memory output r memory' output'
   event_ignores {r} p =
       let turn = turn_of sheet run e memory output in
-      let from : r ≡ Overlooked → turn ≡ Ignored = λ q. ignored_of turn run.held (sym q ∙ p.answer) in
+      let from : r ≡ Ok None → turn ≡ Ok None = λ q. ignored_of turn run.held (sym q ∙ p.answer) in
       record {
         exactly = (λ q. ignored_when.0 (from q), λ w. p.answer ∙ rw (ignored_when.1 w));
         memory_kept = λ q. p.memory_after ∙ rw (from q);
@@ -279,7 +272,7 @@ module _ (sheet : List ℕ) (run : Run) (e : EventNo) (memory output : List ℕ)
       }
 
   -- a refused event has one of the numbers of the order
-  pub turn_refuses : (x : Refusal) → turn_of sheet run e memory output ≡ Refused x → Numbered event_order x
+  pub turn_refuses : (x : Refusal) → turn_of sheet run e memory output ≡ Err x → Numbered event_order x
   turn_refuses x p = numbers event_within turns.rows x ((saying_refused _ x).0 p)
 
   -- how an event ends: a refused one leaves the memory and the output as they were
@@ -289,8 +282,6 @@ module _ (sheet : List ℕ) (run : Run) (e : EventNo) (memory output : List ℕ)
     where
       by : (t : Turn) → turn_of sheet run e memory output ≡ t → r ≡ answer_in t run.held → memory' ≡ memory_in t run.held e.0 memory
           → output' ≡ output_in t run.held e.0 memory output → Ends T event_order (answer_told r) ((memory' ≡ memory) × (output' ≡ output))
-      by (Refused x) q a m o = rw a (record { tells = refused ((refused_when x).0 q); rest = λ n. (m, o) })
-      by Ignored q a m o = rw a (record { tells = done (comes_to Ignored q refl).0; rest = λ n. absurd (n refl) })
-      by (Move Halt s) q a m o = rw a (record { tells = done ((taken_when Halt s).0 q).0; rest = λ n. absurd (n refl) })
-      by (Move Store s) q a m o = rw a (record { tells = done ((taken_when Store s).0 q).0; rest = λ n. absurd (n refl) })
-      by (Move Dump s) q a m o = rw a (record { tells = done ((taken_when Dump s).0 q).0; rest = λ n. absurd (n refl) })
+      by (Err x) q a m o = rw a (record { tells = refused ((refused_when x).0 q); rest = λ n. (m, o) })
+      by (Ok None) q a m o = rw a (record { tells = done (comes_to (Ok None) q refl).0; rest = λ n. absurd (n refl) })
+      by (Ok (Some t)) q a m o = rw a (record { tells = done (comes_to (Ok (Some t)) q refl).0; rest = λ n. absurd (n refl) })

@@ -8,15 +8,14 @@ use mathlib.Core.List.{List, [], ◌∷◌, ◌++◌}
 use lib.Dec.{ltb}
 use lib.ListN.{length, take, drop}
 use borrow.Author.Tests.{ltb-true, ltb-false}
+use Rattle.std.specs.Prelude.{None, Some, Ok, Err}
 use Rattle.rule.specs.Drawing.{event_no}
-use Rattle.rule.specs.declared.Verdict.{Verdict}
-use Rattle.rule.specs.declared.Verdict.TheVariants.{Sound, Refused}
+use Rattle.rule.specs.Verdict.{Verdict}
 use Rattle.rule.proofs.TableLaws.{sound_exactly}
 use Rattle.sheet.specs.Layout.{head_in}
 use Rattle.sheet.specs.Opening.{opened_of}
 use Rattle.effects.specs.declared.Run.{Run}
-use Rattle.effects.specs.declared.Answer.{Answer}
-use Rattle.effects.specs.declared.Answer.TheVariants.{Taken, Ignored, Refused as Declined}
+use Rattle.effects.specs.Effects.{Answer}
 use Rattle.monitor.specs.Event.{EventPromise}
 use Rattle.monitor.specs.Evening.{Outcome, joined, go_on, calls_of, stands_by, short_evening, evening_of, report_of, EveningPromise}
 use Rattle.monitor.specs.Known.{known, heard, uncounted, ignoring}
@@ -32,11 +31,11 @@ module _ (sheet : List ℕ) where
   K = (head_in sheet).events
 
   abbrev Stands : Run → (memory : List ℕ) → Type 0
-  Stands run memory = stands_by (opened_of sheet) run (length memory) ≡ Sound
+  Stands run memory = stands_by (opened_of sheet) run (length memory) ≡ Ok tt
 
   -- from a run that 11 and 12 do not refuse the call of an event from K on ignores it
   pub ignores_past : (run : Run) (e : ℕ) (memory output : List ℕ) → Stands run memory → K ≤ e
-      → EventPromise sheet run (event_no e) memory output Ignored memory output
+      → EventPromise sheet run (event_no e) memory output (Ok None) memory output
   ignores_past run e memory output s k =
       let none = (sound_exactly (stand_within sheet run (length memory)) (stand_rows sheet run (length memory))).0 s in
       let t = (ignored_when sheet run (event_no e) memory output).1 (none, k) in
@@ -50,12 +49,12 @@ module _ (sheet : List ℕ) where
   heard_under : (e : ℕ) (es : List ℕ) → e < K → Heard es → (run : Run) (memory output : List ℕ) → (r : Answer) (memory' output' : List ℕ)
       → EventPromise sheet run (event_no e) memory output r memory' output'
       → go_on r e run memory' output' (later sheet (heard sheet es)) ≡ uncounted (go_on r e run memory' output' (later sheet es))
-  heard_under e es k go run memory output (Declined x) memory' output' p = refl
-  heard_under e es k go run memory output Ignored memory' output' p =
+  heard_under e es k go run memory output (Err x) memory' output' p = refl
+  heard_under e es k go run memory output (Ok None) memory' output' p =
       absurd (omega (arith, k, ((event_ignores sheet run (event_no e) memory output p).exactly.0 refl).1))
-  heard_under e es k go run memory output (Taken o next n) memory' output' p =
-      ap (joined (record { code = e; operation = o } ∷ []) (take n output') [])
-      (go next memory' (drop n output') (taken_stands sheet run e memory output o next n memory' output' p))
+  heard_under e es k go run memory output (Ok (Some t)) memory' output' p =
+      ap (joined (record { code = e; operation = t.operation } ∷ []) (take t.released output') [])
+      (go t.run memory' (drop t.released output') (taken_stands sheet run e memory output t memory' output' p))
 
   heard_by : (e : ℕ) (es : List ℕ) (b : Bool) → ltb e K ≡ b → Heard es → (run : Run) (memory output : List ℕ) → Stands run memory
       → calls_of sheet run (cond b (e ∷ heard sheet es) (heard sheet es)) memory output ≡ uncounted (calls_of sheet run (e ∷ es) memory output)
@@ -66,7 +65,7 @@ module _ (sheet : List ℕ) where
       ∙ ap uncounted (sym (calls_more sheet run e es memory output _ _ _ p))
   heard_by e es false q go run memory output s =
       go run memory output s
-      ∙ ap uncounted (sym (calls_more sheet run e es memory output Ignored memory output (ignores_past run e memory output s (ltb-false e K q))))
+      ∙ ap uncounted (sym (calls_more sheet run e es memory output (Ok None) memory output (ignores_past run e memory output s (ltb-false e K q))))
 
   pub calls_heard : (es : List ℕ) → Heard es
   unfolding calls_of known
@@ -89,10 +88,10 @@ module _ (sheet : List ℕ) where
 
       by : (v : Verdict) → stands_by (opened_of sheet) run (length memory) ≡ v
           → evening_of sheet run (heard sheet log) memory output ≡ uncounted (evening_of sheet run log memory output)
-      by Sound s =
+      by (Ok tt) s =
           one ∙ stands sheet run memory output s (heard sheet log) ∙ calls_heard log run memory output s
           ∙ ap uncounted (sym (two ∙ stands sheet run memory output s log))
-      by (Refused x) s = one ∙ stands_not sheet run memory output s (heard sheet log) ∙ ap uncounted (sym (two ∙ stands_not sheet run memory output s log))
+      by (Err x) s = one ∙ stands_not sheet run memory output s (heard sheet log) ∙ ap uncounted (sym (two ∙ stands_not sheet run memory output s log))
 
   pub same_heard : (run : Run) (a b memory output : List ℕ) → length a ≤ 4096 → length b ≤ 4096 → heard sheet a ≡ heard sheet b
       → (r : Evening) (memory₁ output₁ : List ℕ) → EveningPromise sheet run a memory output r memory₁ output₁

@@ -1,4 +1,3 @@
-pub mod EventLaws
 pub mod CallsLaws
 pub mod EveningLaws
 pub mod FirstLaws

@@ -8,7 +8,7 @@ use mathlib.Core.List.{List, ◌∷◌, ◌++◌, append_assoc}
 use mathlib.Core.Logic.{◌↔◌}
 use lib.ListN.{length, take, drop, length-append}
 use lib.Seq.{take-append_seam, drop-append_seam}
-use Rattle.rule.specs.declared.Verdict.TheVariants.{Sound}
+use Rattle.std.specs.Prelude.{Ok}
 use Rattle.rule.proofs.RefusalLaws.{not_both, sound_or}
 use Rattle.sheet.specs.Opening.{opened_of}
 use Rattle.effects.specs.declared.Run.{Run}
@@ -30,20 +30,20 @@ module _ (sheet : List ℕ) where
       )
 
   -- an evening that is not refused: short, from a run that 11 and 12 do not refuse
-  sound_short : (run : Run) (log memory output : List ℕ) → (evening_of sheet run log memory output).verdict ≡ Sound → Dec (4096 < length log)
+  sound_short : (run : Run) (log memory output : List ℕ) → (evening_of sheet run log memory output).verdict ≡ Ok tt → Dec (4096 < length log)
       → length log ≤ 4096
   sound_short run log memory output p (yes h) = not_both p (ap (λ (y : Outcome). y.verdict) (is_long sheet run memory output log h))
   sound_short run log memory output p (no h) = omega arith
 
-  sound_stands : (run : Run) (log memory output : List ℕ) → (evening_of sheet run log memory output).verdict ≡ Sound
-      → stands_by (opened_of sheet) run (length memory) ≡ Sound
+  sound_stands : (run : Run) (log memory output : List ℕ) → (evening_of sheet run log memory output).verdict ≡ Ok tt
+      → stands_by (opened_of sheet) run (length memory) ≡ Ok tt
   sound_stands run log memory output p =
       let s = sound_short run log memory output p (dec_lt 4096 (length log)) in
       sound_or (stands_by (opened_of sheet) run (length memory)) (λ q. q)
       (λ x q. not_both p (ap (λ (y : Outcome). y.verdict) (is_short sheet run log memory output s ∙ stands_not sheet run memory output q log)))
 
   -- from such a run it is the single calls, whatever the log
-  stands_calls : (run : Run) (log memory output : List ℕ) → length log ≤ 4096 → stands_by (opened_of sheet) run (length memory) ≡ Sound
+  stands_calls : (run : Run) (log memory output : List ℕ) → length log ≤ 4096 → stands_by (opened_of sheet) run (length memory) ≡ Ok tt
       → evening_of sheet run log memory output ≡ calls_of sheet run log memory output
   stands_calls run log memory output s q = is_short sheet run log memory output s ∙ stands sheet run memory output q log
 
@@ -55,20 +55,20 @@ module _ (sheet : List ℕ) where
     abbrev second : Outcome
     second = calls_of sheet first.run b first.memory first.rest
 
-    both : (evening_of sheet run a memory output).verdict ≡ Sound
+    both : (evening_of sheet run a memory output).verdict ≡ Ok tt
         → (evening_of sheet run a memory output ≡ first) × (evening_of sheet first.run b first.memory first.rest ≡ second)
         × (evening_of sheet run (a ++ b) memory output ≡ joined first.taken first.released first.ignored second)
     both p =
         let s = sound_stands run a memory output p in
         let one = stands_calls run a memory output (omega (arith, fits, length-append a b)) s in
-        let v : first.verdict ≡ Sound = ap (λ (y : Outcome). y.verdict) (sym one) ∙ p in
+        let v : first.verdict ≡ Ok tt = ap (λ (y : Outcome). y.verdict) (sym one) ∙ p in
         let t = stand_on sheet a run memory output (λ _. s) v in (
           one,
           stands_calls first.run b first.memory first.rest (omega (arith, fits, length-append a b)) t,
           stands_calls run (a ++ b) memory output fits s ∙ calls_append sheet a b run memory output v,
         )
 
-    pub two_evenings : (r : Evening) (memory₁ output₁ : List ℕ) → EveningPromise sheet run a memory output r memory₁ output₁ → r.verdict ≡ Sound
+    pub two_evenings : (r : Evening) (memory₁ output₁ : List ℕ) → EveningPromise sheet run a memory output r memory₁ output₁ → r.verdict ≡ Ok tt
         → (s : Evening) (memory₂ output₂ : List ℕ) → EveningPromise sheet r.run b memory₁ (drop r.released output₁) s memory₂ output₂
         → EveningPromise sheet run (a ++ b) memory output (both_of r s) memory₂ (take r.released output₁ ++ output₂)
     two_evenings r memory₁ output₁ p v s memory₂ output₂ q =

@@ -1,20 +1,16 @@
 -- What many events in one call come to: the single calls one after another, each given the unwritten rest of the output, up to the first refusal.
 -- Assumes nothing.
-use Rattle.std.specs.Prelude.{ℕ, ◌+◌, ◌≡◌, cond, List, [], ◌∷◌, ◌++◌, length, take, drop, ltb}
+use Rattle.std.specs.Prelude.{ℕ, ◌+◌, ◌≡◌, cond, List, [], ◌∷◌, ◌++◌, length, take, drop, ltb, None, Some, Ok, Err}
 use Rattle.rule.specs.Drawing.{event_no}
 use Rattle.rule.specs.Refusals.{refuse_if}
 use Rattle.rule.specs.declared.Operation.{Operation}
 use Rattle.rule.specs.declared.Refusal.{Refusal}
-use Rattle.rule.specs.declared.Refusal.TheVariants.{Sheet as NoSheet, Run as BadRun, Log}
-use Rattle.rule.specs.declared.Verdict.{Verdict}
-use Rattle.rule.specs.declared.Verdict.TheVariants.{Sound, Refused}
-use Rattle.sheet.specs.Opening.{opened_of}
-use Rattle.sheet.specs.declared.Opened.{Opened}
-use Rattle.sheet.specs.declared.Opened.TheVariants.{Sheet, Refused as Shut}
-use Rattle.effects.specs.Effects.{answer_in, memory_in, output_in}
+use Rattle.rule.specs.declared.Refusal.TheVariants.{Run as BadRun, Log}
+use Rattle.rule.specs.Verdict.{Verdict}
+use Rattle.sheet.specs.Opening.{Opened, opened_of}
+use Rattle.effects.specs.Effects.{Answer, answer_in, memory_in, output_in}
 use Rattle.effects.specs.declared.Run.{Run}
-use Rattle.effects.specs.declared.Answer.{Answer}
-use Rattle.effects.specs.declared.Answer.TheVariants.{Taken, Ignored, Refused as Declined}
+use Rattle.effects.specs.declared.Taken.{Taken}
 use Rattle.monitor.specs.Event.{unfit, turn_of, EventPromise}
 use Rattle.monitor.specs.declared.Evening.{Evening}
 
@@ -46,26 +42,19 @@ idle run memory output v = record { taken = []; released = []; ignored = []; run
 -- the events taken, what they released and the events ignored first, and then what the later calls come to
 abbrev pub joined : List Entry → (released ignored : List ℕ) → Outcome → Outcome
 joined taken released ignored x =
-    record {
-      taken = taken ++ x.taken;
-      released = released ++ x.released;
-      ignored = ignored ++ x.ignored;
-      run = x.run;
-      memory = x.memory;
-      rest = x.rest;
-      verdict = x.verdict;
-    }
+    record x { taken = taken ++ x.taken; released = released ++ x.released; ignored = ignored ++ x.ignored }
 
 -- a refused event ends the calls; one that is taken goes before the later calls, which are given the rest of the output; so does one that is ignored, and the
 -- later calls are given what it was given
 abbrev pub go_on : Answer → (e : ℕ) → Run → (memory output : List ℕ) → (Run → (memory rest : List ℕ) → Outcome) → Outcome
-go_on (Declined x) e run memory output later = idle run memory output (Refused x)
-go_on Ignored e run memory output later = joined [] [] (e ∷ []) (later run memory output)
-go_on (Taken o next n) e run memory output later = joined (record { code = e; operation = o } ∷ []) (take n output) [] (later next memory (drop n output))
+go_on (Err x) e run memory output later = idle run memory output (Err x)
+go_on (Ok None) e run memory output later = joined [] [] (e ∷ []) (later run memory output)
+go_on (Ok (Some t)) e run memory output later =
+    joined (record { code = e; operation = t.operation } ∷ []) (take t.released output) [] (later t.run memory (drop t.released output))
 
 -- the single calls, one after another
 unfoldable pub calls_of : (sheet : List ℕ) → Run → (log memory output : List ℕ) → Outcome
-calls_of sheet run [] memory output = idle run memory output Sound
+calls_of sheet run [] memory output = idle run memory output (Ok tt)
 calls_of sheet run (e ∷ es) memory output =
     let turn = turn_of sheet run (event_no e) memory output in
     go_on (answer_in turn run.held) e run (memory_in turn run.held e memory) (output_in turn run.held e memory output)
@@ -73,8 +62,12 @@ calls_of sheet run (e ∷ es) memory output =
 
 -- 11 and 12
 abbrev pub stands_by : Opened → Run → (room : ℕ) → Verdict
-stands_by Shut run room = Refused NoSheet
-stands_by (Sheet h) run room = refuse_if (unfit h run room) BadRun
+stands_by (Err x) run room = Err x
+stands_by (Ok h) run room = refuse_if (unfit h run room) BadRun
+
+-- whether an evening may begin: 19, a log over 4,096 events, ignored ones too, comes before 11 and 12
+abbrev pub ready_of : (sheet : List ℕ) → Run → (log : List ℕ) → (room : ℕ) → Verdict
+ready_of sheet run log room = cond (ltb 4096 (length log)) (Err Log) (stands_by (opened_of sheet) run room)
 
 -- an empty log still gives these; any other is the single calls, of which the first gives them
 abbrev pub short_evening : (sheet : List ℕ) → Run → (log memory output : List ℕ) → Outcome
@@ -83,7 +76,7 @@ short_evening sheet run (e ∷ es) memory output = calls_of sheet run (e ∷ es)
 
 -- 19: a log over 4,096 events, ignored ones too, before 11 and with nothing taken
 unfoldable pub evening_of : (sheet : List ℕ) → Run → (log memory output : List ℕ) → Outcome
-evening_of sheet run log memory output = cond (ltb 4096 (length log)) (idle run memory output (Refused Log)) (short_evening sheet run log memory output)
+evening_of sheet run log memory output = cond (ltb 4096 (length log)) (idle run memory output (Err Log)) (short_evening sheet run log memory output)
 
 -- what is reported of calls: the run, the numbers taken, released and ignored, the refusal; and the whole of the memory and the output after them
 abbrev pub report_of : Outcome → Evening
@@ -101,16 +94,16 @@ EveningPromise sheet run log memory output = Reports (evening_of sheet run log m
 
 -- real calls: each keeps the promise of one event, and gets the run, the memory and the unwritten rest of the output that the one before left
 pub data Calls (sheet : List ℕ) : Run → (log memory output : List ℕ) → Outcome → Type 0 where
-  over : {run : Run} {memory output : List ℕ} → Calls sheet run [] memory output (idle run memory output Sound)
+  over : {run : Run} {memory output : List ℕ} → Calls sheet run [] memory output (idle run memory output (Ok tt))
   refused : {run : Run} {e : ℕ} {es memory output : List ℕ} {x : Refusal} {memory' output' : List ℕ}
-      → EventPromise sheet run (event_no e) memory output (Declined x) memory' output'
-      → Calls sheet run (e ∷ es) memory output (idle run memory' output' (Refused x))
+      → EventPromise sheet run (event_no e) memory output (Err x) memory' output'
+      → Calls sheet run (e ∷ es) memory output (idle run memory' output' (Err x))
   ignored : {run : Run} {e : ℕ} {es memory output : List ℕ} {memory' output' : List ℕ} {later : Outcome}
-      → EventPromise sheet run (event_no e) memory output Ignored memory' output' → Calls sheet run es memory' output' later
+      → EventPromise sheet run (event_no e) memory output (Ok None) memory' output' → Calls sheet run es memory' output' later
       → Calls sheet run (e ∷ es) memory output (joined [] [] (e ∷ []) later)
-  taken : {run : Run} {e : ℕ} {es memory output : List ℕ} {o : Operation} {next : Run} {n : ℕ} {memory' output' : List ℕ} {later : Outcome}
-      → EventPromise sheet run (event_no e) memory output (Taken o next n) memory' output' → Calls sheet next es memory' (drop n output') later
-      → Calls sheet run (e ∷ es) memory output (joined (record { code = e; operation = o } ∷ []) (take n output') [] later)
+  taken : {run : Run} {e : ℕ} {es memory output : List ℕ} {t : Taken} {memory' output' : List ℕ} {later : Outcome}
+      → EventPromise sheet run (event_no e) memory output (Ok (Some t)) memory' output' → Calls sheet t.run es memory' (drop t.released output') later
+      → Calls sheet run (e ∷ es) memory output (joined (record { code = e; operation = t.operation } ∷ []) (take t.released output') [] later)
 
 -- what an evening promises is what such calls leave
 pub record SingleCalls (sheet : List ℕ) (run : Run) (log memory output : List ℕ) (r : Evening) (memory' output' : List ℕ) : Type 0 where

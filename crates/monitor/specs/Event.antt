@@ -1,26 +1,21 @@
 -- What one event comes to: classified once, into a move with its operation, ignored, or a refusal; the answer, the memory and the output follow from that
 -- (Effects).
 -- Assumes nothing.
-use Rattle.std.specs.Prelude.{ℕ, ◌/◌, ◌%◌, Bool, cond, ◌||◌, List, length, leb, ltb, eqb}
+use Rattle.std.specs.Prelude.{ℕ, ◌/◌, ◌%◌, Bool, cond, ◌||◌, List, length, None, Ok, Err, leb, ltb, eqb}
 use Rattle.rule.specs.Drawing.{state_no}
 use Rattle.rule.specs.declared.EventNo.{EventNo}
-use Rattle.rule.specs.declared.Refusal.TheVariants.{Sheet as NoSheet, Run as BadRun, Cell}
+use Rattle.rule.specs.declared.Refusal.TheVariants.{Run as BadRun, Cell}
 use Rattle.sheet.specs.Layout.{cell_in, operation_of}
-use Rattle.sheet.specs.Opening.{opened_of}
+use Rattle.sheet.specs.Opening.{Opened, opened_of}
 use Rattle.sheet.specs.declared.Head.{Head}
-use Rattle.sheet.specs.declared.Opened.{Opened}
-use Rattle.sheet.specs.declared.Opened.TheVariants.{Sheet, Refused as Shut}
-use Rattle.effects.specs.Effects.{room_turn, TurnPromise}
+use Rattle.effects.specs.Effects.{Turn, Answer, move, room_turn, TurnPromise}
 use Rattle.effects.specs.declared.Run.{Run}
-use Rattle.effects.specs.declared.Turn.{Turn}
-use Rattle.effects.specs.declared.Turn.TheVariants.{Move, Ignored, Refused}
-use Rattle.effects.specs.declared.Answer.{Answer}
 
 -- 14: the cell read has operation 3 or next state >= N
 unfoldable pub cell_turn : (cell states : ℕ) → Run → EventNo → Turn
 cell_turn cell states run e =
-    cond (eqb (cell / 64) 3 || leb states (cell % 64)) (Refused (Cell run.state e))
-    (Move (operation_of (cell / 64)) (state_no (cell % 64)))
+    cond (eqb (cell / 64) 3 || leb states (cell % 64)) (Err (Cell run.state e))
+    (move (operation_of (cell / 64)) (state_no (cell % 64)))
 
 -- the cell of the run's state and the event
 abbrev pub cell_at : Head → (sheet : List ℕ) → Run → EventNo → ℕ
@@ -33,8 +28,8 @@ unfit h run room = leb h.states run.state.0 || ltb room run.held
 -- 12; an event from K on is ignored; then what the cell says
 unfoldable pub look_of : Head → (sheet : List ℕ) → Run → EventNo → (room : ℕ) → Turn
 look_of h sheet run e room =
-    cond (unfit h run room) (Refused BadRun)
-    (cond (leb h.events e.0) Ignored
+    cond (unfit h run room) (Err BadRun)
+    (cond (leb h.events e.0) (Ok None)
     (cell_turn (cell_at h sheet run e) h.states run e))
 
 -- what an event comes to on an opened sheet
@@ -44,8 +39,8 @@ step_turn h sheet run e memory output =
 
 -- what an event comes to; 11: the sheet is refused, and the event is not looked at
 abbrev pub turn_by : Opened → (sheet : List ℕ) → Run → EventNo → (memory output : List ℕ) → Turn
-turn_by (Sheet h) sheet run e memory output = step_turn h sheet run e memory output
-turn_by Shut sheet run e memory output = Refused NoSheet
+turn_by (Ok h) sheet run e memory output = step_turn h sheet run e memory output
+turn_by (Err x) sheet run e memory output = Err x
 
 abbrev pub turn_of : (sheet : List ℕ) → Run → EventNo → (memory output : List ℕ) → Turn
 turn_of sheet run e memory output = turn_by (opened_of sheet) sheet run e memory output

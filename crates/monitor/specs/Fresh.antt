@@ -1,19 +1,21 @@
 -- What a fresh start comes to.
 -- Assumes nothing.
-use Rattle.std.specs.Prelude.{ℕ, List}
+use Rattle.std.specs.Prelude.{ℕ, List, Result, Ok, Err}
+use Rattle.std.specs.Result.{result_unwrap_or}
 use Rattle.rule.specs.Drawing.{state_no}
-use Rattle.rule.specs.declared.Refusal.TheVariants.{Sheet as NoSheet}
-use Rattle.rule.specs.declared.Verdict.TheVariants.{Sound, Refused}
-use Rattle.sheet.specs.Opening.{opened_of}
-use Rattle.sheet.specs.declared.Opened.{Opened}
-use Rattle.sheet.specs.declared.Opened.TheVariants.{Sheet, Refused as Shut}
+use Rattle.rule.specs.declared.Refusal.{Refusal}
+use Rattle.sheet.specs.Opening.{Opened, opened_of}
 use Rattle.effects.specs.Effects.{fresh_run}
-use Rattle.monitor.specs.declared.Start.{Start}
+use Rattle.effects.specs.declared.Run.{Run}
 
--- at the initial state of an opened sheet; at state 0 where it is refused 11
-abbrev pub start_by : Opened → Start
-start_by (Sheet h) = record { verdict = Sound; run = fresh_run h.initial }
-start_by Shut = record { verdict = Refused NoSheet; run = fresh_run (state_no 0) }
+-- at the initial state of an opened sheet, or refused as the sheet is: 11
+abbrev pub start_by : Opened → Result Run Refusal
+start_by (Ok h) = Ok (fresh_run h.initial)
+start_by (Err x) = Err x
 
-abbrev pub start_of : List ℕ → Start
+abbrev pub start_of : List ℕ → Result Run Refusal
 start_of sheet = start_by (opened_of sheet)
+
+-- the run that it gives; where it is refused, one at state 0 with nothing held
+abbrev pub start_run : List ℕ → Run
+start_run sheet = result_unwrap_or (start_of sheet) (fresh_run (state_no 0))

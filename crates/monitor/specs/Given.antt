@@ -1,7 +1,7 @@
 -- The paper's table "Refusal numbers" for a fresh start, 11, for an event, 11, 12 and 14 to 16, and for an evening, 19 and then those: number, refusal, when.
 -- And when an event is ignored.
 -- Assumes nothing.
-use Rattle.std.specs.Prelude.{ℕ, ◌+◌, ◌/◌, ◌%◌, ◌≤◌, ◌<◌, ◌≡◌, List, [], ◌∷◌, ◌++◌, ◌↔◌, length, drop}
+use Rattle.std.specs.Prelude.{ℕ, ◌+◌, ◌/◌, ◌%◌, ◌≤◌, ◌<◌, ◌≡◌, List, [], ◌∷◌, ◌++◌, ◌↔◌, length, drop, None, Ok, Err}
 use Rattle.rule.specs.Drawing.{state_no, event_no}
 use Rattle.rule.specs.Given.{NoRow, Given}
 use Rattle.rule.specs.Refusals.{told_of}
@@ -11,13 +11,10 @@ use Rattle.rule.specs.declared.Operation.{Operation}
 use Rattle.rule.specs.declared.Operation.TheVariants.{Store, Dump}
 use Rattle.rule.specs.declared.Refusal.{Refusal}
 use Rattle.rule.specs.declared.Refusal.TheVariants.{Sheet as NoSheet, Run as BadRun, Cell, Memory, Room, Log}
-use Rattle.rule.specs.declared.Verdict.TheVariants.{Sound, Refused}
 use Rattle.sheet.specs.Given.{BadSheet}
-use Rattle.sheet.specs.Layout.{head_in}
+use Rattle.sheet.specs.Layout.{head_in, operation_of}
 use Rattle.effects.specs.declared.Run.{Run}
-use Rattle.sheet.specs.Layout.{operation_of}
-use Rattle.effects.specs.declared.Answer.{Answer}
-use Rattle.effects.specs.declared.Answer.TheVariants.{Ignored, Refused as Declined}
+use Rattle.effects.specs.Effects.{Answer}
 use Rattle.monitor.specs.Event.{cell_at, EventPromise}
 use Rattle.monitor.specs.Evening.{calls_of, Reports}
 use Rattle.monitor.specs.declared.Evening.{Evening}
@@ -68,9 +65,9 @@ pub data EventRow (sheet : List ℕ) (run : Run) (e : EventNo) (room space : ℕ
 
 -- an event is ignored exactly when 11 and 12 do not hold and it is K or more; then nothing changes
 pub record Ignores (sheet : List ℕ) (run : Run) (e : EventNo) (memory output : List ℕ) (r : Answer) (memory' output' : List ℕ) : Type 0 where
-  pub exactly : (r ≡ Ignored) ↔ (NoRow (StandRow sheet run (length memory)) × ((head_in sheet).events ≤ e.0))
-  pub memory_kept : r ≡ Ignored → memory' ≡ memory
-  pub output_kept : r ≡ Ignored → output' ≡ output
+  pub exactly : (r ≡ Ok None) ↔ (NoRow (StandRow sheet run (length memory)) × ((head_in sheet).events ≤ e.0))
+  pub memory_kept : r ≡ Ok None → memory' ≡ memory
+  pub output_kept : r ≡ Ok None → output' ≡ output
 
 -- the first event that is refused: every one before it is taken or ignored, and its own call, given the unwritten rest of the output, refuses it with x
 pub record RefusedAt (sheet : List ℕ) (run : Run) (log memory output : List ℕ) (x : Refusal) : Type 0 where
@@ -78,7 +75,7 @@ pub record RefusedAt (sheet : List ℕ) (run : Run) (log memory output : List �
   pub event : ℕ
   pub after : List ℕ
   pub whole : log ≡ before ++ event ∷ after
-  pub none_refused : (calls_of sheet run before memory output).verdict ≡ Sound
+  pub none_refused : (calls_of sheet run before memory output).verdict ≡ Ok tt
   pub refused : let left = calls_of sheet run before memory output in
       Given (EventRow sheet left.run (event_no event) (length left.memory) (length left.rest)) x event_order
 
@@ -99,12 +96,6 @@ pub record EveningKept (sheet : List ℕ) (run : Run) (log memory output : List 
   pub after : List ℕ
   pub whole : log ≡ before ++ after
   pub passed : r.taken + r.ignored ≡ length before
-  pub left : Reports (calls_of sheet run before memory output) (record {
-    run = r.run;
-    taken = r.taken;
-    released = r.released;
-    ignored = r.ignored;
-    verdict = Sound;
-  }) memory' output'
-  pub changes_nothing : length log ≤ 4096 → (e : ℕ) (es : List ℕ) → after ≡ e ∷ es → (x : Refusal) → r.verdict ≡ Refused x
-      → EventPromise sheet r.run (event_no e) memory' (drop r.released output') (Declined x) memory' (drop r.released output')
+  pub left : Reports (calls_of sheet run before memory output) (record r { verdict = Ok tt }) memory' output'
+  pub changes_nothing : length log ≤ 4096 → (e : ℕ) (es : List ℕ) → after ≡ e ∷ es → (x : Refusal) → r.verdict ≡ Err x
+      → EventPromise sheet r.run (event_no e) memory' (drop r.released output') (Err x) memory' (drop r.released output')

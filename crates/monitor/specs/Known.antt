@@ -28,17 +28,8 @@ pub record SoFar (sheet log : List ℕ) (x : Outcome) : Type 0 where
 
 -- what calls come to, but for the events ignored
 abbrev pub uncounted : Outcome → Outcome
-uncounted x =
-    record {
-      taken = x.taken;
-      released = x.released;
-      ignored = [];
-      run = x.run;
-      memory = x.memory;
-      rest = x.rest;
-      verdict = x.verdict;
-    }
+uncounted x = record x { ignored = [] }
 
 -- the report of an evening with another number of events ignored
 abbrev pub ignoring : ℕ → Evening → Evening
-ignoring n r = record { run = r.run; taken = r.taken; released = r.released; ignored = n; verdict = r.verdict }
+ignoring n r = record r { ignored = n }

@@ -1,49 +1,37 @@
 // The monitor: a fresh start, one event (document 01, "What an operation does"; document 02, M-104), and an evening of events in one call (M-101).
 #![tactic(auto)]
 
-ghost use Rattle.std.specs.Prelude.{◌≡◌, ◌-◌, ◌≤◌};
-ghost use Rattle.monitor.specs.Evening.{EveningPromise};
+ghost use Rattle.std.specs.Prelude.{◌≡◌, Ok, Err, IfOk, MatchResult};
+ghost use Rattle.monitor.specs.Evening.{EveningPromise, ready_of};
 ghost use Rattle.monitor.specs.Event.{EventPromise};
 ghost use Rattle.monitor.specs.Fresh.{start_of};
 
 mod steps;
 
-use effects::{Answer, Run};
-use rule::{EventNo, Refusal, StateNo, Verdict};
-use sheet::Opened;
-
-// What a fresh start comes to: a run, at state 0 with nothing held where the sheet is refused.
-#[derive(Clone, Copy)]
-pub struct Start {
-    pub verdict: Verdict,
-    pub run: Run,
-}
+use crate::steps::Opened;
+use effects::{Run, Taken};
+use rule::{EventNo, Refusal};
 
 // A fresh run starts at the sheet's initial state with nothing held: refusal 11.
-pub fn fresh(sheet: &[u8]) -> Start
+pub fn fresh(sheet: &[u8]) -> Result<Run, Refusal>
     ensures { result ≡ start_of sheet.now }
 {
-    let Opened::Sheet(head) = sheet::open(sheet) else {
-        return Start {
-            verdict: Verdict::Refused(Refusal::Sheet),
-            run: Run::new(StateNo(0)),
-        };
-    };
-    Start {
-        verdict: Verdict::Sound,
-        run: Run::new(head.initial),
-    }
+    let head = sheet::open(sheet)?;
+    Ok(Run::new(head.initial))
 }
 
 // One event: the refusals 11, 12 and 14 to 16 in order; after 12 an event of K or more is ignored. A refused sheet ends the call before the event
-// is looked at.
-pub fn event(sheet: &[u8], run: Run, event: EventNo, memory: &mut [u8], output: &mut [u8]) -> Answer
+// is looked at. The buffers are lent one by one, as C hands them over: a struct of them would be made and taken apart in each call.
+pub fn event(
+    sheet: &[u8],
+    run: Run,
+    event: EventNo,
+    memory: &mut [u8],
+    output: &mut [u8],
+) -> Result<Option<Taken>, Refusal>
     ensures { EventPromise sheet.now run event memory.old output.old result memory.new output.new }
 {
-    let Opened::Sheet(head) = sheet::open(sheet) else {
-        return Answer::Refused(Refusal::Sheet);
-    };
-    steps::step(sheet, head, run, event, memory, output)
+    Opened::new(sheet)?.step(run, event, memory, output)
 }
 
 // What an evening comes to: the run after the events taken, how many were taken, released and ignored, and the refusal that ended it, if one did.
@@ -53,42 +41,37 @@ pub struct Evening {
     pub taken: usize,
     pub released: usize,
     pub ignored: usize,
-    pub verdict: Verdict,
+    pub verdict: Result<(), Refusal>,
 }
 
 impl Evening {
-    // Refused with nothing taken.
-    fn refused(run: Run, refusal: Refusal) -> Self
-        ensures { result ≡ record { run = run; taken = 0; released = 0; ignored = 0; verdict = Verdict.Refused refusal } }
+    // Nothing taken, released or ignored so far.
+    pub(crate) fn new(run: Run, verdict: Result<(), Refusal>) -> Self
+        ensures { result ≡ record { run = run; taken = 0; released = 0; ignored = 0; verdict = verdict } }
     {
         Self {
             run,
             taken: 0,
             released: 0,
             ignored: 0,
-            verdict: Verdict::Refused(refusal),
-        }
-    }
-
-    // Of the events passed those that were not ignored were taken.
-    pub(crate) fn ended(
-        run: Run,
-        passed: usize,
-        released: usize,
-        ignored: usize,
-        verdict: Verdict,
-    ) -> Self
-        requires { ignored ≤ passed }
-        ensures { result ≡ record { run = run; taken = passed - ignored; released = released; ignored = ignored; verdict = verdict } }
-    {
-        Self {
-            run,
-            taken: passed - ignored,
-            released,
-            ignored,
             verdict,
         }
     }
+}
+
+// The sheet, opened, where an evening may begin: the refusals 19, 11 and 12 in order.
+fn ready<'a>(sheet: &'a [u8], run: Run, log: &[u8], room: usize) -> Result<Opened<'a>, Refusal>
+    ensures sheet { IfOk result (λ o. o.sheet.now ≡ sheet.now) }
+    ensures verdict { MatchResult result (λ o. ready_of sheet.now run log.now room ≡ Ok tt) (λ x. ready_of sheet.now run log.now room ≡ Err x) }
+{
+    if 4096 < log.len() {
+        return Err(Refusal::Log);
+    }
+    let opened = Opened::new(sheet)?;
+    if opened.unfit(run, room) {
+        return Err(Refusal::Run);
+    }
+    Ok(opened)
 }
 
 // An evening: up to 4,096 events, each release put into the output right after the one before. It ends at the first refusal and keeps what
@@ -98,14 +81,8 @@ pub fn events(sheet: &[u8], run: Run, log: &[u8], memory: &mut [u8], output: &mu
     ensures { EveningPromise sheet.now run log.now memory.old output.old
         result memory.new output.new }
 {
-    if 4096 < log.len() {
-        return Evening::refused(run, Refusal::Log);
+    match ready(sheet, run, log, memory.len()) {
+        Ok(opened) => opened.each(run, log, memory, output),
+        Err(refusal) => Evening::new(run, Err(refusal)),
     }
-    let Opened::Sheet(head) = sheet::open(sheet) else {
-        return Evening::refused(run, Refusal::Sheet);
-    };
-    if steps::unfit(head, run, memory.len()) {
-        return Evening::refused(run, Refusal::Run);
-    }
-    steps::each(sheet, head, run, log, memory, output)
 }

@@ -1,130 +1,118 @@
 // Events on an opened sheet: what a cell says, its operation carried out, and many of them one after another.
-ghost use Rattle.std.specs.Prelude.{◌≡◌};
+ghost use Rattle.std.specs.Prelude.{◌≡◌, Ok};
 ghost use Rattle.sheet.specs.Opening.{opened_of};
-ghost use Rattle.sheet.specs.declared.Opened.TheVariants.{Sheet};
-ghost use Rattle.monitor.specs.Event.{cell_turn, look_of, StepPromise, unfit};
-ghost use Rattle.monitor.specs.Evening.{calls_of, Reports};
+ghost use Rattle.monitor.specs.Event.{cell_turn};
 
 use crate::Evening;
-use effects::{Answer, Run, Turn, dump, halt, store};
-use rule::{EventNo, Operation, Refusal, StateNo, Verdict, place};
+use effects::{Move, Run, Taken, dump, halt, store};
+use rule::{EventNo, Operation, Refusal, StateNo, place};
 use sheet::Head;
 
-// Whether 12 refuses the run. Its two tests, and those of 14 below, are joined by `|`: one branch for both.
-pub(crate) fn unfit(head: Head, run: Run, room: usize) -> bool
-    ensures { result ≡ unfit head run room }
-{
-    (head.states <= run.state.0) | (room < run.held)
+// A sheet that opened, with what it says of itself.
+#[derive(Clone, Copy)]
+pub(crate) struct Opened<'a> {
+    sheet: &'a [u8],
+    head: Head,
+    ghost opened: { Ok head ≡ opened_of sheet.now },
 }
 
 // What a cell says: refusal 14, or a move.
-fn read(cell: u8, states: u8, run: Run, event: EventNo) -> Turn
+#[tactic(auto, unfolding(crate::specs::Event::cell_turn))]
+fn read(cell: u8, states: u8, run: Run, event: EventNo) -> Result<Option<Move>, Refusal>
     ensures { result ≡ cell_turn cell states run event }
 {
     let next = StateNo(cell % 64);
-    if (cell / 64 == 3) | (states <= next.0) {
-        let state = run.state;
-        return Turn::Refused(Refusal::Cell(state, event));
-    }
-    match cell / 64 {
-        0 => return Turn::Move(Operation::Halt, next),
-        1 => return Turn::Move(Operation::Store, next),
-        _ => return Turn::Move(Operation::Dump, next),
+    match Operation::try_from(cell / 64) {
+        Ok(operation) if next.0 < states => Ok(Some(Move { operation, next })),
+        _ => Err(Refusal::Cell(run.state, event)),
     }
 }
 
-// What the sheet says at the run's state and the event: refusal 12; ignored, from K on; then what the cell says. `room` is the memory's length.
-pub(crate) fn look(sheet: &[u8], head: Head, run: Run, event: EventNo, room: usize) -> Turn
-    requires { Sheet head ≡ opened_of sheet.now }
-    ensures { result ≡ look_of head sheet.now run event room }
-{
-    if unfit(head, run, room) {
-        return Turn::Refused(Refusal::Run);
-    }
-    if head.events <= event.0 {
-        return Turn::Ignored;
-    }
-    let at = place(head.events, run.state, event);
-    read(sheet[at], head.states, run, event)
-}
+impl<'a> Opened<'a> {
+    ghost use Rattle.std.specs.Prelude.{◌≤◌, Err, IfOk, OnSome, IfSome, MatchResult, length};
+    ghost use Rattle.monitor.specs.Event.{look_of, StepPromise, unfit};
+    ghost use Rattle.monitor.specs.Evening.{calls_of, Reports};
 
-// One event on an opened sheet.
-pub(crate) fn step(
-    sheet: &[u8],
-    head: Head,
-    run: Run,
-    event: EventNo,
-    memory: &mut [u8],
-    output: &mut [u8],
-) -> Answer
-    requires { Sheet head ≡ opened_of sheet.now }
-    ensures { StepPromise head sheet.now run event memory.old output.old result memory.new output.new }
-{
-    let turn = look(sheet, head, run, event, memory.len());
-    match turn {
-        Turn::Refused(refusal) => return Answer::Refused(refusal),
-        Turn::Ignored => return Answer::Ignored,
-        Turn::Move(operation, next) => match operation {
-            Operation::Halt => return halt(next, run),
-            Operation::Store => return store(next, run, event, memory),
-            Operation::Dump => {
-                let held = run.held;
-                return dump(next, &memory[..held], event, output);
-            }
-        },
+    // The sheet, opened: refusal 11.
+    pub(crate) fn new(sheet: &'a [u8]) -> Result<Self, Refusal>
+        ensures { MatchResult result (λ o. o.sheet.now ≡ sheet.now) (λ x. Err x ≡ opened_of sheet.now) }
+    {
+        let head = sheet::open(sheet)?;
+        Ok(Self { sheet, head })
     }
-}
 
-// The events of a log, one after another, each given the unwritten rest of the output, up to the first refusal.
-pub(crate) fn each(
-    sheet: &[u8],
-    head: Head,
-    run: Run,
-    log: &[u8],
-    memory: &mut [u8],
-    output: &mut [u8],
-) -> Evening
-    requires { Sheet head ≡ opened_of sheet.now }
-    ensures { Reports (calls_of sheet.now run log.now memory.old output.old)
-        result memory.new output.new }
-{
-    let mut present = run;
-    let mut passed = 0;
-    let mut released = 0;
-    let mut ignored = 0;
-    while passed < log.len() {
-        let answer = step(
-            sheet,
-            head,
-            present,
-            EventNo(log[passed]),
-            memory,
-            &mut output[released..],
-        );
-        match answer {
-            Answer::Taken {
-                operation: _,
-                run: next,
-                released: more,
-            } => {
-                present = next;
-                released += more;
-                passed += 1;
-            }
-            Answer::Ignored => {
-                ignored += 1;
-                passed += 1;
-            }
-            Answer::Refused(refusal) => {
-                return Evening::ended(
-                    present,
-                    passed,
-                    released,
-                    ignored,
-                    Verdict::Refused(refusal),
-                );
+    // Whether 12 refuses the run. Its two tests are joined by `|`: one branch for both.
+    pub(crate) fn unfit(self, run: Run, room: usize) -> bool
+        ensures { result ≡ unfit self.entry.head run room }
+    {
+        (self.head.states <= run.state.0) | (room < run.held)
+    }
+
+    // What the sheet says at the run's state and the event: refusal 12; ignored, from K on; then what the cell says. `room` is the memory's length.
+    #[tactic(auto, using(sheet::proofs::OpeningLaws::place_inside), unfolding(crate::specs::Event::look_of))]
+    fn look(self, run: Run, event: EventNo, room: usize) -> Result<Option<Move>, Refusal>
+        ensures turn { result ≡ look_of self.entry.head self.entry.sheet.now run event room }
+        ensures held { IfOk result (λ o. OnSome o (run.held ≤ room)) }
+    {
+        if self.unfit(run, room) {
+            return Err(Refusal::Run);
+        }
+        if self.head.events <= event.0 {
+            return Ok(None);
+        }
+        let at = place(self.head.events, run.state, event);
+        read(self.sheet[at], self.head.states, run, event)
+    }
+
+    // One event on an opened sheet.
+    pub(crate) fn step(
+        self,
+        run: Run,
+        event: EventNo,
+        memory: &mut [u8],
+        output: &mut [u8],
+    ) -> Result<Option<Taken>, Refusal>
+        ensures turn { StepPromise self.entry.head self.entry.sheet.now run event memory.old output.old result memory.new output.new }
+        ensures fits { IfOk result (λ o. IfSome o (λ t. t.released ≤ length output.new)) }
+    {
+        let Some(Move { operation, next }) = self.look(run, event, memory.len())? else {
+            return Ok(None);
+        };
+        let taken = match operation {
+            Operation::Halt => halt(next, run),
+            Operation::Store => store(next, run, event, memory)?,
+            Operation::Dump => dump(next, &memory[..run.held], event, output)?,
+        };
+        Ok(Some(taken))
+    }
+
+    // The events of a log, one after another, each given the unwritten rest of the output, up to the first refusal.
+    pub(crate) fn each(self, run: Run, log: &[u8], memory: &mut [u8], output: &mut [u8]) -> Evening
+        ensures { Reports (calls_of self.entry.sheet.now run log.now memory.old output.old)
+            result memory.new output.new }
+    {
+        let mut evening = Evening::new(run, Ok(()));
+        for &code in log {
+            match self.step(
+                evening.run,
+                EventNo(code),
+                memory,
+                &mut output[evening.released..],
+            ) {
+                Ok(Some(taken)) => {
+                    evening.run = taken.run;
+                    evening.taken += 1;
+                    evening.released += taken.released;
+                }
+                Ok(None) => evening.ignored += 1,
+                Err(refusal) => {
+                    return Evening {
+                        verdict: Err(refusal),
+                        ..evening
+                    };
+                }
             }
         }
+        evening
     }
-    Evening::ended(present, passed, released, ignored, Verdict::Sound)
 }

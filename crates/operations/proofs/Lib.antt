@@ -1,4 +1,4 @@
--- what each return of the code comes to
+-- the smallest value over the pairs
 pub mod ValueLaws
 -- the operation of a move into each state, as two sets
 pub mod MarkLaws

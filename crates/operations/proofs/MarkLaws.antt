@@ -1,15 +1,17 @@
 -- Laws of the two sets: what the loop over the pairs builds, and that they give the operation of every state.
 -- Assumes nothing.
-use Prim.Native.Nat.{ℕ, ◌-◌, ◌^◌, ◌≤◌, ◌<◌, min}
+use Prim.Native.Nat.{ℕ, ◌-◌, ◌^◌, ◌<◌}
 use native.Mathlib.Omega.{arith}
 use native.Mathlib.Nat.{lt_of_lt_of_le}
 use mathlib.Core.Path.{◌≡◌, refl, sym, ◌∙◌}
 use mathlib.Core.Bool.{Bool, true, false, cond, not, ◌&&◌, ◌||◌}
-use mathlib.Core.List.{List}
-use lib.ListN.{length, get_or, take, drop, get_or-eq_default}
+use mathlib.Core.List.{List, [], ◌∷◌}
+use lib.ListN.{get_or, take, get_or-eq_default}
 use lib.Pow.{pow_mono}
 use lib.Bits.{bit_and, bit_or, or_lt}
 use borrow.Author.Tests.{eq-eqb, ne_eqb}
+use Rattle.std.proofs.Math.Bool.{and_assoc, and-true, or_assoc, or-false}
+use Rattle.std.specs.List.{fold}
 use Rattle.rule.specs.Sets.{has, Members, those}
 use Rattle.rule.specs.Reach.{target}
 use Rattle.rule.specs.Backward.{reaching, lost_by, lost_by_some}
@@ -28,82 +30,76 @@ use Rattle.rule.proofs.BackwardLaws.{reaching_at, lost_stops}
 use Rattle.rule.proofs.StoppingLaws.{good_at}
 use Rattle.rule.proofs.OperationLaws.{by_mode, operation_dump, operation_halt}
 use Rattle.operations.specs.Marks.{operation_in, lost_pairs, lost_joint, marks_of}
-use Rattle.operations.specs.declared.Marks.{Marks}
-use Rattle.operations.proofs.ValueLaws.{none_left, one_more}
 
--- one lemma for each return of `at`
-module _ (m : Marks) (t : ℕ) (a : Bool) (is-a : a ≡ has m.good t) where
-  pub at_dump : a ≡ true → Dump ≡ operation_in m t
-  unfolding operation_in
-  at_dump p = rw (← is-a, p)
+-- the states that all pairs accept, one pair at a time: with those of the pairs before, x has the ones of which q holds
+abbrev pub with_accepted : ℕ → Pair → ℕ
+with_accepted x p = bit_and x (bit_or p.r p.p)
 
-  module _ (o : a ≡ false) (b : Bool) (is_b : b ≡ has m.halt t) where
-    pub at_halt : b ≡ true → Halt ≡ operation_in m t
-    unfolding operation_in
-    at_halt p = rw (← is-a, o, ← is_b, p)
+good_from : (ps : List Pair) (x : ℕ) (q : ℕ → Bool) → Members x q → Members (fold with_accepted x ps) (λ t. q t && meets_all ps t)
+unfolding meets_all meets_pair
+good_from [] x q is t h = is t h ∙ sym (and-true (q t))
+good_from (p ∷ ps) x q is t h =
+    good_from ps (with_accepted x p) (λ t. q t && meets_pair p t)
+    (λ t h. rw (has_and x (bit_or p.r p.p) t, has_or p.r p.p t, is t h)) t h
+    ∙ and_assoc (q t) (meets_pair p t) (meets_all ps t)
 
-    pub at_store : b ≡ false → Store ≡ operation_in m t
-    unfolding operation_in
-    at_store p = rw (← is-a, o, ← is_b, p)
-
--- the two sets, pair by pair: no pair yet, and one more in front
-module _ (ps : List Pair) (count i : ℕ) (eight : length ps ≡ 8) where
-  pub good_none : min count 8 ≤ i → Members 18446744073709551615 (meets_all (drop i (take count ps)))
-  unfolding meets_all
-  good_none m t h = rw (none_left ps count i eight m) (rw (has_none t) at (has_not 0 t (omega arith) h))
-
-  pub halt_none : (next : ℕ → ℕ → ℕ) (n k : ℕ) → min count 8 ≤ i → Members 0 (lost_by_some next n k (drop i (take count ps)))
-  unfolding lost_by_some
-  halt_none next n k m t h = rw (none_left ps count i eight m) (has_none t)
-
-  module _ (d : Pair) (z : 0 < i) (a : i ≤ count) (b : i ≤ 8) (x : ℕ) where
-    pub good_more : Members x (meets_all (drop i (take count ps)))
-        → Members (bit_and (bit_or (get_or ps (i - 1) d).r (get_or ps (i - 1) d).p) x) (meets_all (drop (i - 1) (take count ps)))
-    unfolding meets_all meets_pair
-    good_more is t h =
-        let p = get_or ps (i - 1) d in
-        rw (one_more ps count i eight d z a b, has_and (bit_or p.r p.p) x t, has_or p.r p.p t, is t h)
-
-    pub halt_more : (next : ℕ → ℕ → ℕ) (n k y : ℕ) → Members y (lost_by next n k (get_or ps (i - 1) d))
-        → Members x (lost_by_some next n k (drop i (take count ps))) → Members (bit_or y x) (lost_by_some next n k (drop (i - 1) (take count ps)))
-    unfolding lost_by_some
-    halt_more next n k y by is t h = rw (one_more ps count i eight d z a b, has_or y x t, by t h, is t h)
-
--- the states lost by one pair
-pub outside : (next : ℕ → ℕ → ℕ) (n k : ℕ) (p : Pair) (back : ℕ) → back ≡ reaching next n k p.r → p.p < 2 ^ 64 → back < 2 ^ 64
-    → Members (2 ^ 64 - 1 - bit_or p.p back) (lost_by next n k p)
-unfolding lost_by
-outside next n k p back is low fits t h =
-    rw (has_not (bit_or p.p back) t (or_lt 64 p.p back low fits) h, has_or p.p back t, is) (neither (has p.p t) (has (reaching next n k p.r) t))
+pub good_all : (ps : List Pair) (good : ℕ) → good < 2 ^ 64 → good ≡ fold with_accepted 18446744073709551615 ps
+    → good ≡ those (meets_all ps) 64
+good_all ps good fits is = those_is (meets_all ps) good fits (rw (← is) at (good_from ps 18446744073709551615 (λ t. true) all))
   where
-    neither : (a b : Bool) → not (a || b) ≡ not a && not b
-    neither true b = refl
-    neither false b = refl
+    all : Members 18446744073709551615 (λ t. true)
+    all t h = rw (has_none t) at (has_not 0 t (omega arith) h)
 
--- down to the first
-module _ (ps : List Pair) (count i : ℕ) (last : i ≤ 0) (x : ℕ) (fits : x < 2 ^ 64) where
-  pub good_all : Members x (meets_all (drop i (take count ps))) → x ≡ those (meets_all (take count ps)) 64
-  good_all m = let e : i ≡ 0 = omega arith in those_is (meets_all (take count ps)) x fits (rw e at m)
+-- the states that are lost by one of them
+module _ (next : ℕ → ℕ → ℕ) (n k : ℕ) where
+  abbrev pub with_lost : ℕ → Pair → ℕ
+  with_lost x p = bit_or x (those (lost_by next n k p) 64)
 
-  pub halt_all : (next : ℕ → ℕ → ℕ) (n k : ℕ) → Members x (lost_by_some next n k (drop i (take count ps)))
-      → x ≡ those (lost_by_some next n k (take count ps)) 64
-  halt_all next n k m = let e : i ≡ 0 = omega arith in those_is (lost_by_some next n k (take count ps)) x fits (rw e at m)
+  halt_from : (ps : List Pair) (x : ℕ) (q : ℕ → Bool) → Members x q → Members (fold with_lost x ps) (λ t. q t || lost_by_some next n k ps t)
+  unfolding lost_by_some
+  halt_from [] x q is t h = is t h ∙ sym (or-false (q t))
+  halt_from (p ∷ ps) x q is t h =
+      halt_from ps (with_lost x p) (λ t. q t || lost_by next n k p t)
+      (λ t h. rw (has_or x (those (lost_by next n k p) 64) t, is t h, those_at (lost_by next n k p) 64 t (omega arith) h)) t h
+      ∙ or_assoc (q t) (lost_by next n k p t) (lost_by_some next n k ps t)
+
+  pub halt_all : (ps : List Pair) (halt : ℕ) → halt < 2 ^ 64 → halt ≡ fold with_lost 0 ps → halt ≡ those (lost_by_some next n k ps) 64
+  halt_all ps halt fits is = those_is (lost_by_some next n k ps) halt fits (rw (← is) at (halt_from ps 0 (λ t. false) (λ t h. has_none t)))
+
+  -- the states lost by one pair
+  pub outside : (p : Pair) (back : ℕ) → back ≡ reaching next n k p.r → p.p < 2 ^ 64 → back < 2 ^ 64
+      → 2 ^ 64 - 1 - bit_or p.p back ≡ those (lost_by next n k p) 64
+  unfolding lost_by
+  outside p back is low fits =
+      those_is (lost_by next n k p) (2 ^ 64 - 1 - bit_or p.p back) (omega arith)
+      (λ t h. rw (has_not (bit_or p.p back) t (or_lt 64 p.p back low fits) h, has_or p.p back t, is) (neither (has p.p t) (has (reaching next n k p.r) t)))
+    where
+      neither : (a b : Bool) → not (a || b) ≡ not a && not b
+      neither true b = refl
+      neither false b = refl
 
 -- the two sets by the mode
-module _ (h : Shape) (table : List ℕ) (ps : List Pair) {good : ℕ} (is-good : good ≡ those (meets_all (take h.pairs ps)) 64) where
+module _ (h : Shape) (table : List ℕ) (ps used : List Pair) (are : used ≡ take h.pairs ps) (good : ℕ) (is-good : good ≡ those (meets_all used) 64) where
   abbrev D : Drawing
   D = body h table ps
 
-  pub marks_joint : h.mode ≡ 1 → {back : ℕ} → back ≡ reaching (target table h.events) h.states h.events good → back < 2 ^ 64
-      → record { good = good; halt = 2 ^ 64 - 1 - back } ≡ marks_of D
-  unfolding marks_of good_of
-  marks_joint j {back} is-back fits =
-      let is-halt = those_is (lost_joint D) (2 ^ 64 - 1 - back) (omega arith) (λ t l. has_not back t fits l ∙ rw (is-back, is-good)) in
-      rw (eq-eqb h.mode 1 j) (λ i. record { good = is-good i; halt = is-halt i })
+  good_is : good ≡ good_of D
+  unfolding good_of
+  good_is = rw are at is-good
 
-  pub marks_pairs : (h.mode ≡ 1 → ⊥) → {halt : ℕ} → halt ≡ those (lost_pairs D) 64 → record { good = good; halt = halt } ≡ marks_of D
-  unfolding marks_of good_of
-  marks_pairs n {halt} is-halt = rw (ne_eqb h.mode 1 n) (λ i. record { good = is-good i; halt = is-halt i })
+  pub marks_joint : (back : ℕ) → h.mode ≡ 1 → back ≡ reaching (target table h.events) h.states h.events good → back < 2 ^ 64
+      → record { good = good; halt = 2 ^ 64 - 1 - back } ≡ marks_of D
+  unfolding marks_of
+  marks_joint back j is-back fits =
+      let is-halt = those_is (lost_joint D) (2 ^ 64 - 1 - back) (omega arith) (λ t l. has_not back t fits l ∙ rw (is-back, good_is)) in
+      rw (eq-eqb h.mode 1 j) (λ i. record { good = good_is i; halt = is-halt i })
+
+  pub marks_pairs : (halt : ℕ) → (h.mode ≡ 1 → ⊥) → halt ≡ those (lost_by_some (target table h.events) h.states h.events used) 64
+      → record { good = good; halt = halt } ≡ marks_of D
+  unfolding marks_of
+  marks_pairs halt n is-halt =
+      let e : halt ≡ those (lost_pairs D) 64 = rw are at is-halt in
+      rw (ne_eqb h.mode 1 n) (λ i. record { good = good_is i; halt = e i })
 
 -- the operation by the two sets is that of the drawing
 module _ (d : Drawing) (well : WellDrawn d) where

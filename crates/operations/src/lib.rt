@@ -1,21 +1,22 @@
 // The operation of a move, by its target, and the stopping states.
 #![tactic(auto)]
 
-ghost use Rattle.std.specs.Prelude.{◌≡◌, take};
-ghost use Rattle.rule.specs.Backward.{lost_by};
-ghost use Rattle.rule.specs.Drawing.{body};
+ghost use Rattle.std.specs.Prelude.{◌≡◌};
+ghost use Rattle.rule.specs.Backward.{lost_by, lost_by_some};
+ghost use Rattle.rule.specs.Drawing.{drawing_of};
 ghost use Rattle.rule.specs.Operations.{value_of, smallest_of};
 ghost use Rattle.rule.specs.Reach.{target};
 ghost use Rattle.rule.specs.Acceptance.{meets_all};
-ghost use Rattle.rule.specs.Sets.{Members, those};
+ghost use Rattle.rule.specs.Sets.{those};
 ghost use Rattle.rule.specs.Stopping.{stops_by};
-ghost use Rattle.operations.specs.Marks.{operation_in, lost_pairs, marks_of};
+ghost use Rattle.operations.specs.Marks.{operation_in, marks_of};
 
-use reach::backward;
+use reach::Moves;
 use reach::sets::contains;
-use rule::{Operation, Pair, Rule, Shape, StateNo};
+use rule::{Body, Operation, Pair, Rule, StateNo};
 
 // A pair's value at a target that reaches the set `reached`.
+#[tactic(auto, using(rule::proofs::SetLaws::and_none, rule::proofs::SetLaws::and_some), unfolding(rule::specs::Operations::value_of))]
 pub fn value(pair: Pair, reached: u64, target: StateNo) -> Operation
     ensures { result ≡ value_of pair reached target.0 }
 {
@@ -31,32 +32,14 @@ pub fn value(pair: Pair, reached: u64, target: StateNo) -> Operation
     Operation::Store
 }
 
-// The smaller of two operations.
-fn smaller(a: Operation, b: Operation) -> Operation
-    ensures { result ≡ Rattle.rule.specs.Operations.smaller a b }
+// The smallest value of the pairs at a target that reaches the set `reached`.
+pub fn operation(pairs: &[Pair], reached: u64, target: StateNo) -> Operation
+    ensures { result ≡ smallest_of pairs.now reached target.0 }
 {
-    match a {
-        Operation::Halt => Operation::Halt,
-        Operation::Store => match b {
-            Operation::Halt => Operation::Halt,
-            Operation::Store => Operation::Store,
-            Operation::Dump => Operation::Store,
-        },
-        Operation::Dump => b,
-    }
-}
-
-// The smallest value of the first `count` pairs at a target that reaches the set `reached`.
-pub fn operation(pairs: [Pair; 8], count: u8, reached: u64, target: StateNo) -> Operation
-    ensures { result ≡ smallest_of (take count pairs) reached target.0 }
-{
-    let mut i: usize = if count < 8 { count as usize } else { 8 };
-    let mut least = Operation::Dump;
-    while 0 < i {
-        i -= 1;
-        least = smaller(value(pairs[i], reached, target), least);
-    }
-    least
+    pairs.iter().fold(
+        Operation::Dump,
+        |least, pair| least.min(value(*pair, reached, target)),
+    )
 }
 
 // The states that every pair accepts, and those where a move halts.
@@ -68,6 +51,7 @@ pub struct Marks {
 
 impl Marks {
     // The operation of a move into t.
+    #[tactic(auto, unfolding(crate::specs::Marks::operation_in))]
     pub fn at(self, t: StateNo) -> Operation
         ensures { result ≡ operation_in self t.0 }
     {
@@ -82,55 +66,51 @@ impl Marks {
 }
 
 // The states outside P from which no events lead into R.
-fn lost_by(table: &[u8], states: u8, events: u8, pair: Pair) -> u64
-    ensures { Members result (lost_by (target table.now events) states events pair) }
+#[tactic(auto, using(crate::proofs::MarkLaws::outside))]
+fn lost_by(moves: Moves, pair: Pair) -> u64
+    ensures { result ≡ those (lost_by (target moves.entry.table.now moves.entry.events) moves.entry.states moves.entry.events pair) 64 }
 {
-    !(pair.p | backward(table, states, events, pair.r))
+    !(pair.p | moves.backward(pair.r))
 }
 
-// The states that the first `count` pairs accept, all of them.
-pub fn good_states(pairs: [Pair; 8], count: u8) -> u64
-    ensures { result ≡ those (meets_all (take count pairs)) 64 }
+// The states that the pairs accept, all of them.
+#[tactic(auto, using(crate::proofs::MarkLaws::good_all))]
+pub fn good_states(pairs: &[Pair]) -> u64
+    ensures { result ≡ those (meets_all pairs.now) 64 }
 {
-    let mut rest: usize = if count < 8 { count as usize } else { 8 };
-    let mut good: u64 = 0xffff_ffff_ffff_ffff;
-    while 0 < rest {
-        rest -= 1;
-        let pair = pairs[rest];
-        good = (pair.r | pair.p) & good;
-    }
-    good
+    pairs
+        .iter()
+        .fold(u64::MAX, |good, pair| good & (pair.r | pair.p))
 }
 
 // The states that are lost by one of the pairs: from each R one backward reach at a time.
-fn lost_states(shape: Shape, table: &[u8], pairs: [Pair; 8]) -> u64
-    ensures { result ≡ those (lost_pairs (body shape table.now pairs)) 64 }
+#[tactic(auto, using(crate::proofs::MarkLaws::halt_all))]
+fn lost_states(moves: Moves, pairs: &[Pair]) -> u64
+    ensures { result ≡ those (lost_by_some (target moves.entry.table.now moves.entry.events) moves.entry.states moves.entry.events pairs.now) 64 }
 {
-    let count = shape.pairs;
-    let mut left: usize = if count < 8 { count as usize } else { 8 };
-    let mut halt: u64 = 0;
-    while 0 < left {
-        left -= 1;
-        let pair = pairs[left];
-        halt = lost_by(table, shape.states, shape.events, pair) | halt;
-    }
-    halt
+    pairs
+        .iter()
+        .fold(0, |halt, pair| halt | lost_by(moves, *pair))
 }
 
 // What a move into each state of a rule does. In joint mode there is one backward reach, from the states that every pair accepts.
-pub fn mark_states(shape: Shape, table: &[u8], pairs: [Pair; 8]) -> Marks
-    ensures { result ≡ marks_of (body shape table.now pairs) }
+pub fn mark_states(body: Body) -> Marks
+    ensures { result ≡ marks_of (drawing_of body.entry) }
 {
-    let good = good_states(pairs, shape.pairs);
-    if shape.mode == Rule::JOINT {
-        let back = backward(table, shape.states, shape.events, good);
+    let used = (body.shape.pairs as usize).min(body.pairs.len());
+    let pairs = &body.pairs[..used];
+    let moves = Moves::of(body);
+    let good = good_states(pairs);
+    if body.shape.mode == Rule::JOINT {
+        let back = moves.backward(good);
         return Marks { good, halt: !back };
     }
-    let halt = lost_states(shape, table, pairs);
+    let halt = lost_states(moves, pairs);
     Marks { good, halt }
 }
 
 // Whether a state that reaches the set `reached` is stopping by a pair.
+#[tactic(auto, using(rule::proofs::SetLaws::and_none, rule::proofs::SetLaws::and_some), unfolding(rule::specs::Stopping::stops_by))]
 pub fn stops(pair: Pair, reached: u64, q: StateNo) -> bool
     ensures { result ≡ stops_by pair reached q.0 }
 {

@@ -3,25 +3,20 @@
 -- Assumes nothing.
 use Prim.Native.Nat.{ℕ}
 use native.Mathlib.Omega.{arith}
-use mathlib.Core.Path.{◌≡◌, refl, ap}
+use mathlib.Core.Path.{◌≡◌, refl}
 use mathlib.Core.List.{List}
 use lib.ListN.{length}
-use Rattle.rule.specs.Drawing.{state_no, event_no}
-use Rattle.rule.specs.Given.{Table, NoRow, Given, done, refused, Ends}
-use Rattle.rule.specs.Refusals.{verdict_told}
+use Rattle.rule.specs.Drawing.{event_no}
+use Rattle.rule.specs.Given.{Table, NoRow, Given, done, refused, Tells, Ends}
 use Rattle.rule.specs.Operations.{mark_of}
 use Rattle.rule.specs.declared.Operation.{Operation}
 use Rattle.rule.specs.declared.Operation.TheVariants.{Halt, Store, Dump}
 use Rattle.rule.specs.declared.Refusal.{Refusal}
-use Rattle.rule.specs.declared.Verdict.{Verdict}
-use Rattle.rule.specs.declared.Verdict.TheVariants.{Sound, Refused as Unsound}
-use Rattle.rule.specs.declared.Written.{Written}
-use Rattle.rule.specs.declared.Written.TheVariants.{Done, Refused as Unwritten}
 use Rattle.rule.specs.Putting.{written_told}
 use Rattle.book.specs.Finding.{lookup_of, verdict_by}
 use Rattle.book.specs.Given.{Finding, find_order}
 use Rattle.book.specs.declared.Lookup.{Lookup}
-use Rattle.book.specs.declared.Lookup.TheVariants.{Job, Office, Refused as NotFound}
+use Rattle.book.specs.declared.Lookup.TheVariants.{Job, Office}
 use Rattle.book.proofs.GivenLaws.{find_sound, find_gives}
 use Rattle.monitor.specs.Event.{EventPromise}
 use Rattle.monitor.specs.Fresh.{start_of}
@@ -29,14 +24,12 @@ use Rattle.monitor.specs.Given.{FreshRow, fresh_order, EventRow, event_order, Ig
 use Rattle.monitor.proofs.FreshLaws.{fresh_ends}
 use Rattle.monitor.proofs.GivenLaws.{event_ends, event_ignores}
 use Rattle.monitor.proofs.EveningGivenLaws.{evening_ends}
-use Rattle.effects.specs.Effects.{fresh_run}
+use Rattle.effects.specs.Effects.{Answer, answer_told}
 use Rattle.effects.specs.declared.Run.{Run}
-use Rattle.effects.specs.declared.Answer.{Answer}
-use Rattle.effects.specs.declared.Answer.TheVariants.{Taken, Ignored, Refused}
 use Rattle.why.specs.Given.{Asking, why_order}
 use Rattle.why.specs.Why.{ground_told}
 use Rattle.why.specs.declared.Ground.{Ground}
-use Rattle.why.specs.declared.Ground.TheVariants.{Halted, Held, Released, Refused as Unasked}
+use Rattle.why.specs.declared.Ground.TheVariants.{Halted, Held, Released}
 use Rattle.why.proofs.GivenLaws.{why_ends}
 use Rattle.pachallu.specs.Told.{made_of, PutForC, found_of, FindForC, started_of, FreshForC, run_of, answered_of, EventForC}
 use Rattle.pachallu.specs.Told.{made_told, found_told, started_told, answered_told, PutKept, FindKept, FreshKept, EventKept}
@@ -48,6 +41,8 @@ use Rattle.pachallu.specs.declared.Started.{Started}
 use Rattle.pachallu.specs.declared.Answered.{Answered}
 use Rattle.pachallu.specs.declared.Evening.{Evening}
 use Rattle.pachallu.specs.declared.Reason.{Reason}
+use Rattle.rule.specs.Verdict.{Written}
+use Rattle.std.specs.Prelude.{Ok, Err, Result, None, Some}
 
 -- a call that puts bytes into an output, by how the call behind it ends
 pub c_put_ends : {T : Table} {order : List ℕ} {Promise : Written → List ℕ → Type 0} {out : List ℕ} {r : Made} {out' : List ℕ}
@@ -55,8 +50,8 @@ pub c_put_ends : {T : Table} {order : List ℕ} {Promise : Written → List ℕ 
 c_put_ends {T} {order} {Promise} {out} {r} {out'} ends p = rw p.told (by p.answer (ends p.answer p.promise))
   where
     by : (w : Written) → Ends T order (written_told w) (out' ≡ out) → Ends T order (made_told (made_of w)) (PutKept out (made_of w) out')
-    by (Done n) e = record { tells = e.tells; rest = λ n. absurd (n refl) }
-    by (Unwritten x) e = record { tells = e.tells; rest = λ n. record { output_kept = e.rest n; written = refl } }
+    by (Ok n) e = record { tells = e.tells; rest = λ n. absurd (n refl) }
+    by (Err x) e = record { tells = e.tells; rest = λ n. record { output_kept = e.rest n; written = refl } }
 
 -- looking a rule up
 pub c_find_ends : (job office : List ℕ) (number age : ℕ) {r : Found} → FindForC job office number age r
@@ -64,25 +59,21 @@ pub c_find_ends : (job office : List ℕ) (number age : ℕ) {r : Found} → Fin
 c_find_ends job office number age p =
     rw p (by (lookup_of job office number age) (find_sound job office number age).0 (λ x. (find_gives job office number age x).0))
   where
-    by : (r : Lookup) → (verdict_by r ≡ Sound → NoRow (Finding job office number age))
-        → ((x : Refusal) → verdict_by r ≡ Unsound x → Given (Finding job office number age) x find_order)
+    by : (r : Result Lookup Refusal) → (verdict_by r ≡ Ok tt → NoRow (Finding job office number age))
+        → ((x : Refusal) → verdict_by r ≡ Err x → Given (Finding job office number age) x find_order)
         → Ends (Finding job office number age) find_order (found_told (found_of r)) (FindKept (found_of r))
-    by (Job start size) none given = record { tells = done (none refl); rest = λ n. absurd (n refl) }
-    by (Office start size) none given = record { tells = done (none refl); rest = λ n. absurd (n refl) }
-    by (NotFound x) none given = record { tells = refused (given x refl); rest = λ n. record { book = refl; start = refl; length = refl } }
+    by (Ok (Job start size)) none given = record { tells = done (none refl); rest = λ n. absurd (n refl) }
+    by (Ok (Office start size)) none given = record { tells = done (none refl); rest = λ n. absurd (n refl) }
+    by (Err x) none given = record { tells = refused (given x refl); rest = λ n. record { book = refl; start = refl; length = refl } }
 
 -- a fresh start
 pub c_fresh_ends : {sheet : List ℕ} {r : Started} → FreshForC sheet r → Ends (FreshRow sheet) fresh_order (started_told r) (FreshKept r)
-c_fresh_ends {sheet} p = rw p (by (start_of sheet).verdict (start_of sheet).run (fresh_ends sheet))
+c_fresh_ends {sheet} p = rw p (by (start_of sheet) (fresh_ends sheet).tells)
   where
-    by : (v : Verdict) (run : Run) → Ends (FreshRow sheet) fresh_order (verdict_told v) (run ≡ fresh_run (state_no 0))
-        → Ends (FreshRow sheet) fresh_order (started_told (started_of v run)) (FreshKept (started_of v run))
-    by Sound run e = record { tells = e.tells; rest = λ n. absurd (n refl) }
-    by (Unsound x) run e =
-        record {
-          tells = e.tells;
-          rest = λ n. record { state = ap (λ (q : Run). q.state.0) (e.rest n); held = ap (λ (q : Run). q.held) (e.rest n) };
-        }
+    by : (s : Result Run Refusal) → Tells (FreshRow sheet) fresh_order (answer_told s)
+        → Ends (FreshRow sheet) fresh_order (started_told (started_of s)) (FreshKept (started_of s))
+    by (Ok run) t = record { tells = t; rest = λ n. absurd (n refl) }
+    by (Err x) t = record { tells = t; rest = λ n. record { state = refl; held = refl } }
 
 -- one event
 pub c_event_ends : {sheet : List ℕ} {state held event : ℕ} {memory output : List ℕ} {r : Answered} {memory' output' : List ℕ}
@@ -95,10 +86,10 @@ c_event_ends {sheet} {state} {held} {event} {memory} {output} {r} {memory'} {out
         → Ends (EventRow sheet (run_of state held) (event_no event) (length memory) (length output)) event_order
         (answered_told (answered_of a (run_of state held)))
         (EventKept state held memory output (answered_of a (run_of state held)) memory' output')
-    by (Taken o run k) q =
+    by (Ok (Some t)) q =
         record { tells = (event_ends sheet (run_of state held) (event_no event) memory output q).tells; rest = λ n. absurd (n refl) }
-    by Ignored q = record { tells = (event_ends sheet (run_of state held) (event_no event) memory output q).tells; rest = λ n. absurd (n refl) }
-    by (Refused x) q =
+    by (Ok None) q = record { tells = (event_ends sheet (run_of state held) (event_no event) memory output q).tells; rest = λ n. absurd (n refl) }
+    by (Err x) q =
         let e = event_ends sheet (run_of state held) (event_no event) memory output q in
         record {
           tells = e.tells;
@@ -119,7 +110,7 @@ c_event_ignores {sheet} {state} {held} {event} {memory} {output} {r} {memory'} {
     rw p.told (by p.answer (event_ignores sheet (run_of state held) (event_no event) memory output p.promise))
   where
     only : {a : Answer} → Ignores sheet (run_of state held) (event_no event) memory output a memory' output'
-        → ((answered_of a (run_of state held)).operation ≡ 3 → a ≡ Ignored)
+        → ((answered_of a (run_of state held)).operation ≡ 3 → a ≡ Ok None)
         → IgnoresForC sheet state held event memory output (answered_of a (run_of state held)) memory' output'
     only {a} i from =
         record {
@@ -131,9 +122,9 @@ c_event_ignores {sheet} {state} {held} {event} {memory} {output} {r} {memory'} {
 
     by : (a : Answer) → Ignores sheet (run_of state held) (event_no event) memory output a memory' output'
         → IgnoresForC sheet state held event memory output (answered_of a (run_of state held)) memory' output'
-    by (Taken o run n) i = only i (λ q. absurd (mark_not_3 o q))
-    by Ignored i = only i (λ q. refl)
-    by (Refused x) i = only i (λ q. absurd (omega (arith, q)))
+    by (Ok (Some t)) i = only i (λ q. absurd (mark_not_3 t.operation q))
+    by (Ok None) i = only i (λ q. refl)
+    by (Err x) i = only i (λ q. absurd (omega (arith, q)))
 
 -- an evening
 pub c_evening_ends : {sheet : List ℕ} {state held : ℕ} {log memory output : List ℕ} {r : Evening} {memory' output' : List ℕ}
@@ -149,9 +140,9 @@ pub c_why_ends : {rule : List ℕ} {state event : ℕ} {way : List ℕ} {r : Rea
     → Ends (Asking rule state event (length way)) why_order (reason_told r) (WhyKept way r way')
 c_why_ends {rule} {state} {event} {way} {r} {way'} p = rw p.told (by p.answer (why_ends p.promise))
   where
-    by : (g : Ground) → Ends (Asking rule state event (length way)) why_order (ground_told g) (way' ≡ way)
+    by : (g : Result Ground Refusal) → Ends (Asking rule state event (length way)) why_order (ground_told g) (way' ≡ way)
         → Ends (Asking rule state event (length way)) why_order (reason_told (reason_of g)) (WhyKept way (reason_of g) way')
-    by (Halted i) e = record { tells = e.tells; rest = λ n. absurd (n refl) }
-    by (Held i k) e = record { tells = e.tells; rest = λ n. absurd (n refl) }
-    by Released e = record { tells = e.tells; rest = λ n. absurd (n refl) }
-    by (Unasked x) e = record { tells = e.tells; rest = λ n. record { way_kept = e.rest n; operation = refl; pair = refl; length = refl } }
+    by (Ok (Halted i)) e = record { tells = e.tells; rest = λ n. absurd (n refl) }
+    by (Ok (Held i k)) e = record { tells = e.tells; rest = λ n. absurd (n refl) }
+    by (Ok Released) e = record { tells = e.tells; rest = λ n. absurd (n refl) }
+    by (Err x) e = record { tells = e.tells; rest = λ n. record { way_kept = e.rest n; operation = refl; pair = refl; length = refl } }

@@ -1,6 +1,6 @@
 -- The answers told in numbers. Each promise is that of the call behind it, with the numbers of its answer.
 -- Assumes nothing.
-use Rattle.std.specs.Prelude.{ℕ, ◌≤◌, ◌≡◌, List, ◌↔◌, length}
+use Rattle.std.specs.Prelude.{ℕ, ◌≤◌, ◌≡◌, List, ◌↔◌, length, Ok, Err, Result, None, Some}
 use Rattle.rule.specs.Drawing.{state_no, event_no}
 use Rattle.rule.specs.Operations.{mark_of}
 use Rattle.rule.specs.Refusals.{tell, told_of, verdict_told}
@@ -8,15 +8,12 @@ use Rattle.rule.specs.declared.Operation.{Operation}
 use Rattle.rule.specs.declared.Operation.TheVariants.{Halt, Store, Dump}
 use Rattle.rule.specs.Given.{NoRow}
 use Rattle.sheet.specs.Layout.{head_in}
+use Rattle.rule.specs.declared.Refusal.{Refusal}
 use Rattle.rule.specs.declared.Told.{Told}
-use Rattle.rule.specs.declared.Verdict.{Verdict}
-use Rattle.rule.specs.declared.Verdict.TheVariants.{Sound, Refused as Unsound}
-use Rattle.rule.specs.declared.Written.{Written}
-use Rattle.rule.specs.declared.Written.TheVariants.{Done, Refused as Unwritten}
 use Rattle.book.specs.Finding.{lookup_of}
 use Rattle.book.specs.Adding.{AddPromise}
 use Rattle.book.specs.declared.Lookup.{Lookup}
-use Rattle.book.specs.declared.Lookup.TheVariants.{Job, Office, Refused as NotFound}
+use Rattle.book.specs.declared.Lookup.TheVariants.{Job, Office}
 use Rattle.making.specs.Making.{MakePromise}
 use Rattle.printed.specs.Printing.{PrintPromise}
 use Rattle.monitor.specs.Fresh.{start_of}
@@ -25,22 +22,22 @@ use Rattle.monitor.specs.Evening.{EveningPromise}
 use Rattle.monitor.specs.Given.{StandRow, EveningKept}
 use Rattle.monitor.specs.declared.Evening.{Evening as Reported}
 use Rattle.effects.specs.declared.Run.{Run}
-use Rattle.effects.specs.declared.Answer.{Answer}
-use Rattle.effects.specs.declared.Answer.TheVariants.{Taken, Ignored, Refused}
+use Rattle.effects.specs.Effects.{Answer}
 use Rattle.why.specs.Why.{WhyPromise}
 use Rattle.why.specs.declared.Ground.{Ground}
-use Rattle.why.specs.declared.Ground.TheVariants.{Halted, Held, Released, Refused as Unasked}
+use Rattle.why.specs.declared.Ground.TheVariants.{Halted, Held, Released}
 use Rattle.pachallu.specs.declared.Made.{Made}
 use Rattle.pachallu.specs.declared.Started.{Started}
 use Rattle.pachallu.specs.declared.Answered.{Answered}
 use Rattle.pachallu.specs.declared.Found.{Found}
 use Rattle.pachallu.specs.declared.Evening.{Evening}
 use Rattle.pachallu.specs.declared.Reason.{Reason}
+use Rattle.rule.specs.Verdict.{Written}
 
 -- putting bytes into an output: 0 is "done"; a refused call has written nothing
 abbrev pub made_of : Written → Made
-made_of (Done n) = record { refusal = 0; a = 0; b = 0; written = n }
-made_of (Unwritten r) = record { refusal = (told_of r).number; a = (told_of r).a; b = (told_of r).b; written = 0 }
+made_of (Ok n) = record { refusal = 0; a = 0; b = 0; written = n }
+made_of (Err r) = record { refusal = (told_of r).number; a = (told_of r).a; b = (told_of r).b; written = 0 }
 
 pub record PutForC (Promise : Written → List ℕ → Type 0) (r : Made) (out' : List ℕ) : Type 0 where
   pub answer : Written
@@ -58,22 +55,21 @@ abbrev pub AddForC : (b : List ℕ) (number : ℕ) (rule out : List ℕ) → Mad
 AddForC b number rule out = PutForC (AddPromise b number rule out)
 
 -- looking a rule up: 0 is "found", in the job's book (0) or the office's (1); a refused one has 0 in every place
-abbrev pub found_of : Lookup → Found
-found_of (Job start size) = record { refusal = 0; a = 0; b = 0; book = 0; start = start; length = size }
-found_of (Office start size) = record { refusal = 0; a = 0; b = 0; book = 1; start = start; length = size }
-found_of (NotFound r) = record { refusal = (told_of r).number; a = (told_of r).a; b = (told_of r).b; book = 0; start = 0; length = 0 }
+abbrev pub found_of : Result Lookup Refusal → Found
+found_of (Ok (Job start size)) = record { refusal = 0; a = 0; b = 0; book = 0; start = start; length = size }
+found_of (Ok (Office start size)) = record { refusal = 0; a = 0; b = 0; book = 1; start = start; length = size }
+found_of (Err r) = record { refusal = (told_of r).number; a = (told_of r).a; b = (told_of r).b; book = 0; start = 0; length = 0 }
 
 abbrev pub FindForC : (job office : List ℕ) (number age : ℕ) → Found → Type 0
 FindForC job office number age r = r ≡ found_of (lookup_of job office number age)
 
--- a fresh start
-abbrev pub started_of : Verdict → Run → Started
-started_of Sound run = record { refusal = 0; a = 0; b = 0; state = run.state.0; held = run.held }
-started_of (Unsound r) run =
-    record { refusal = (told_of r).number; a = (told_of r).a; b = (told_of r).b; state = run.state.0; held = run.held }
+-- a fresh start; a refused one is at state 0 with nothing held
+abbrev pub started_of : Result Run Refusal → Started
+started_of (Ok run) = record { refusal = 0; a = 0; b = 0; state = run.state.0; held = run.held }
+started_of (Err r) = record { refusal = (told_of r).number; a = (told_of r).a; b = (told_of r).b; state = 0; held = 0 }
 
 abbrev pub FreshForC : List ℕ → Started → Type 0
-FreshForC sheet r = r ≡ started_of (start_of sheet).verdict (start_of sheet).run
+FreshForC sheet r = r ≡ started_of (start_of sheet)
 
 -- the run state that C carries
 abbrev pub run_of : ℕ → ℕ → Run
@@ -85,10 +81,10 @@ abbrev pub ignored_for : Run → Answered
 ignored_for before = record { refusal = 0; a = 0; b = 0; operation = 3; state = before.state.0; held = before.held; released = 0 }
 
 abbrev pub answered_of : Answer → Run → Answered
-answered_of (Taken o run n) before =
-    record { refusal = 0; a = 0; b = 0; operation = mark_of o; state = run.state.0; held = run.held; released = n }
-answered_of Ignored before = ignored_for before
-answered_of (Refused r) before =
+answered_of (Ok (Some t)) before =
+    record { refusal = 0; a = 0; b = 0; operation = mark_of t.operation; state = t.run.state.0; held = t.run.held; released = t.released }
+answered_of (Ok None) before = ignored_for before
+answered_of (Err r) before =
     record {
       refusal = (told_of r).number;
       a = (told_of r).a;
@@ -127,14 +123,14 @@ pub record EveningForC (sheet : List ℕ) (state held : ℕ) (log memory output 
 abbrev pub reason_by : Operation → (pair length : ℕ) → Reason
 reason_by o pair length = record { refusal = 0; a = 0; b = 0; operation = mark_of o; pair = pair; length = length }
 
-abbrev pub reason_of : Ground → Reason
-reason_of (Halted i) = reason_by Halt i 0
-reason_of (Held i n) = reason_by Store i n
-reason_of Released = reason_by Dump 0 0
-reason_of (Unasked r) = record { refusal = (told_of r).number; a = (told_of r).a; b = (told_of r).b; operation = 0; pair = 0; length = 0 }
+abbrev pub reason_of : Result Ground Refusal → Reason
+reason_of (Ok (Halted i)) = reason_by Halt i 0
+reason_of (Ok (Held i n)) = reason_by Store i n
+reason_of (Ok Released) = reason_by Dump 0 0
+reason_of (Err r) = record { refusal = (told_of r).number; a = (told_of r).a; b = (told_of r).b; operation = 0; pair = 0; length = 0 }
 
 pub record WhyForC (rule : List ℕ) (state event : ℕ) (way : List ℕ) (r : Reason) (way' : List ℕ) : Type 0 where
-  pub answer : Ground
+  pub answer : Result Ground Refusal
   pub promise : WhyPromise rule state event way answer way'
   pub told : r ≡ reason_of answer
 

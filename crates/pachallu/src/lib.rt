@@ -3,18 +3,24 @@
 #![tactic(auto)]
 
 ghost use Rattle.std.specs.Prelude.{◌≡◌};
-ghost use Rattle.rule.specs.Refusals.{verdict_told};
-ghost use Rattle.pachallu.specs.Told.{made_of, reason_by, MakeForC, PrintForC, FindForC, AddForC, FreshForC, EventForC, EveningForC, WhyForC};
+ghost use Rattle.effects.specs.Effects.{answer_told};
+ghost use Rattle.pachallu.specs.Told.{made_of, MakeForC, PrintForC, FindForC, AddForC, FreshForC, EventForC, EveningForC, WhyForC};
 
 use book::Lookup;
-use effects::{Answer, Run};
-use rule::{EventNo, Operation, StateNo, Told, Verdict, Written};
+use effects::Run;
+use rule::{EventNo, Operation, Refusal, StateNo, Told};
 use why::Ground;
 
 // What stands for an operation where the event was ignored. A cell of a sheet with this operation is refused 14.
 pub const IGNORED: u8 = 3;
 
-// What making a sheet, printing a monitor or adding to a book came to. A refusal of 0 is "done".
+// What stands for the books.
+const JOB: u8 = 0;
+
+const OFFICE: u8 = 1;
+
+// What making a sheet, printing a monitor or adding to a book came to. A refusal of 0 is "done". The layout of this struct and the next ones is that of
+// include/pachallu.h, so each has the three numbers of a refusal itself.
 #[repr(C)]
 #[derive(Clone, Copy)]
 pub struct Made {
@@ -87,25 +93,31 @@ pub struct Reason {
     pub length: usize,
 }
 
-// What came of putting bytes, told in numbers.
-fn made_of(written: Written) -> Made
-    ensures { result ≡ made_of written }
+// The three numbers that every answer begins with: 0 where it is not refused.
+fn told<T: Copy>(answer: Result<T, Refusal>) -> Told
+    ensures { result ≡ answer_told answer }
 {
-    match written {
-        Written::Done(written) => Made {
-            refusal: 0,
+    match answer {
+        Ok(_) => Told {
+            number: 0,
             a: 0,
             b: 0,
-            written,
         },
-        Written::Refused(refusal) => {
-            let told = refusal.told();
-            Made {
-                refusal: told.number,
-                a: told.a,
-                b: told.b,
-                written: 0,
-            }
+        Err(refusal) => refusal.told(),
+    }
+}
+
+// What came of putting bytes.
+impl From<Result<usize, Refusal>> for Made {
+    ghost from_gives = { λ written made. made ≡ made_of written };
+
+    fn from(written: Result<usize, Refusal>) -> Self {
+        let told = told(written);
+        Made {
+            refusal: told.number,
+            a: told.a,
+            b: told.b,
+            written: written.unwrap_or(0),
         }
     }
 }
@@ -114,14 +126,14 @@ fn made_of(written: Written) -> Made
 pub fn pachallu_make(rule: &[u8], sheet: &mut [u8]) -> Made
     ensures { MakeForC rule.now sheet.old result sheet.new }
 {
-    made_of(making::make(rule, sheet))
+    Made::from(making::make(rule, sheet))
 }
 
 // Prints the monitor of a rule file, or its refusal, at the front of `text`: refusal 16 where it does not fit.
 pub fn pachallu_print(rule: &[u8], text: &mut [u8]) -> Made
     ensures { PrintForC rule.now text.old result text.new }
 {
-    made_of(printed::print(rule, text))
+    Made::from(printed::print(rule, text))
 }
 
 // Starts a run: refusal 11, and then state 0 with nothing held.
@@ -129,27 +141,15 @@ pub fn pachallu_fresh(sheet: &[u8]) -> Started
     ensures { FreshForC sheet.now result }
 {
     let start = monitor::fresh(sheet);
-    let verdict = start.verdict;
-    let run = start.run;
+    let told = told(start);
+    let run = start.unwrap_or(Run::new(StateNo(0)));
     let state = run.state;
-    match verdict {
-        Verdict::Sound => Started {
-            refusal: 0,
-            a: 0,
-            b: 0,
-            state: state.0,
-            held: run.held,
-        },
-        Verdict::Refused(refusal) => {
-            let told = refusal.told();
-            Started {
-                refusal: told.number,
-                a: told.a,
-                b: told.b,
-                state: state.0,
-                held: run.held,
-            }
-        }
+    Started {
+        refusal: told.number,
+        a: told.a,
+        b: told.b,
+        state: state.0,
+        held: run.held,
     }
 }
 
@@ -168,45 +168,22 @@ pub fn pachallu_event(
         state: StateNo(state),
         held,
     };
-    match monitor::event(sheet, run, EventNo(event), memory, output) {
-        Answer::Taken {
-            operation,
-            run,
-            released,
-        } => {
-            let mark = operation.mark();
-            let next = run.state;
-            Answered {
-                refusal: 0,
-                a: 0,
-                b: 0,
-                operation: mark,
-                state: next.0,
-                held: run.held,
-                released,
-            }
-        }
-        Answer::Ignored => Answered {
-            refusal: 0,
-            a: 0,
-            b: 0,
-            operation: IGNORED,
-            state,
-            held,
-            released: 0,
-        },
-        Answer::Refused(refusal) => {
-            let told = refusal.told();
-            Answered {
-                refusal: told.number,
-                a: told.a,
-                b: told.b,
-                operation: 0,
-                state,
-                held,
-                released: 0,
-            }
-        }
+    let answer = monitor::event(sheet, run, EventNo(event), memory, output);
+    let told = told(answer);
+    let (operation, after, released) = match answer {
+        Ok(Some(taken)) => (taken.operation.mark(), taken.run, taken.released),
+        Ok(None) => (IGNORED, run, 0),
+        Err(_) => (0, run, 0),
+    };
+    let next = after.state;
+    Answered {
+        refusal: told.number,
+        a: told.a,
+        b: told.b,
+        operation,
+        state: next.0,
+        held: after.held,
+        released,
     }
 }
 
@@ -214,34 +191,20 @@ pub fn pachallu_event(
 pub fn pachallu_find(job: &[u8], office: &[u8], number: u8, age: u16) -> Found
     ensures { FindForC job.now office.now number age result }
 {
-    match book::look(job, office, number, age) {
-        Lookup::Job(start, length) => Found {
-            refusal: 0,
-            a: 0,
-            b: 0,
-            book: 0,
-            start,
-            length,
-        },
-        Lookup::Office(start, length) => Found {
-            refusal: 0,
-            a: 0,
-            b: 0,
-            book: 1,
-            start,
-            length,
-        },
-        Lookup::Refused(refusal) => {
-            let told = refusal.told();
-            Found {
-                refusal: told.number,
-                a: told.a,
-                b: told.b,
-                book: 0,
-                start: 0,
-                length: 0,
-            }
-        }
+    let found = book::look(job, office, number, age);
+    let told = told(found);
+    let (book, start, length) = match found {
+        Ok(Lookup::Job(start, length)) => (JOB, start, length),
+        Ok(Lookup::Office(start, length)) => (OFFICE, start, length),
+        Err(_) => (JOB, 0, 0),
+    };
+    Found {
+        refusal: told.number,
+        a: told.a,
+        b: told.b,
+        book,
+        start,
+        length,
     }
 }
 
@@ -249,21 +212,7 @@ pub fn pachallu_find(job: &[u8], office: &[u8], number: u8, age: u16) -> Found
 pub fn pachallu_add(book: &[u8], number: u8, rule: &[u8], out: &mut [u8]) -> Made
     ensures { AddForC book.now number rule.now out.old result out.new }
 {
-    made_of(book::add(book, number, rule, out))
-}
-
-// A verdict in numbers: 0 where it is sound.
-fn told_of(verdict: Verdict) -> Told
-    ensures { result ≡ verdict_told verdict }
-{
-    match verdict {
-        Verdict::Sound => Told {
-            number: 0,
-            a: 0,
-            b: 0,
-        },
-        Verdict::Refused(refusal) => refusal.told(),
-    }
+    Made::from(book::add(book, number, rule, out))
 }
 
 // Offers up to 4,096 events to a run: the refusals 19, 11, 12, then 14 to 16. What was released stands at the front of `output`.
@@ -283,33 +232,18 @@ pub fn pachallu_events(
         held,
     };
     let evening = monitor::events(sheet, run, log, memory, output);
-    let verdict = evening.verdict;
-    let told = told_of(verdict);
-    let after = evening.run;
-    let at = after.state;
+    let told = told(evening.verdict);
+    let last = evening.run;
+    let at = last.state;
     Evening {
         refusal: told.number,
         a: told.a,
         b: told.b,
         state: at.0,
-        held: after.held,
+        held: last.held,
         taken: evening.taken,
         released: evening.released,
         ignored: evening.ignored,
-    }
-}
-
-// An operation with its ground, told in numbers.
-fn reason_of(operation: Operation, pair: u8, length: usize) -> Reason
-    ensures { result ≡ reason_by operation pair length }
-{
-    Reason {
-        refusal: 0,
-        a: 0,
-        b: 0,
-        operation: operation.mark(),
-        pair,
-        length,
     }
 }
 
@@ -317,20 +251,20 @@ fn reason_of(operation: Operation, pair: u8, length: usize) -> Reason
 pub fn pachallu_why(rule: &[u8], state: u8, event: u8, way: &mut [u8]) -> Reason
     ensures { WhyForC rule.now state event way.old result way.new }
 {
-    match why::why(rule, StateNo(state), EventNo(event), way) {
-        Ground::Halted(pair) => reason_of(Operation::Halt, pair, 0),
-        Ground::Held(pair, length) => reason_of(Operation::Store, pair, length),
-        Ground::Released => reason_of(Operation::Dump, 0, 0),
-        Ground::Refused(refusal) => {
-            let told = refusal.told();
-            Reason {
-                refusal: told.number,
-                a: told.a,
-                b: told.b,
-                operation: 0,
-                pair: 0,
-                length: 0,
-            }
-        }
+    let ground = why::why(rule, StateNo(state), EventNo(event), way);
+    let told = told(ground);
+    let (operation, pair, length) = match ground {
+        Ok(Ground::Halted(pair)) => (Operation::Halt.mark(), pair, 0),
+        Ok(Ground::Held(pair, length)) => (Operation::Store.mark(), pair, length),
+        Ok(Ground::Released) => (Operation::Dump.mark(), 0, 0),
+        Err(_) => (0, 0, 0),
+    };
+    Reason {
+        refusal: told.number,
+        a: told.a,
+        b: told.b,
+        operation,
+        pair,
+        length,
     }
 }

@@ -1,4 +1,5 @@
 pub mod PlacingLaws
+pub mod WritingLaws
 pub mod TextLaws
 pub mod LineLaws
 pub mod LoopLaws

@@ -4,6 +4,7 @@ use Prim.Native.Nat.{ℕ, zero, suc, ◌<◌}
 use mathlib.Core.Path.{◌≡◌, refl, sym, ap, ◌∙◌}
 use mathlib.Core.Bool.{Bool, true, false}
 use mathlib.Core.Logic.{◌↔◌}
+use mathlib.Core.List.{◌++◌}
 use native.Mathlib.Omega.{arith}
 use Rattle.rule.specs.Drawing.{Drawing, states, events, next}
 use Rattle.rule.specs.Operations.{operation_at}
@@ -11,14 +12,13 @@ use Rattle.rule.specs.Stopping.{stopping}
 use Rattle.rule.specs.WellDrawn.{WellDrawn}
 use Rattle.rule.specs.declared.Operation.{Operation}
 use Rattle.rule.specs.declared.Operation.TheVariants.{Halt, Store, Dump}
-use Rattle.rule.specs.declared.Verdict.TheVariants.{Sound}
 use Rattle.operations.specs.Marks.{operation_in, marks_of}
 use Rattle.operations.specs.declared.Marks.{Marks}
 use Rattle.operations.proofs.MarkLaws.{marks_at}
 use Rattle.rule.proofs.OperationLaws.{operation_halt}
 use Rattle.rulefile.proofs.ListLaws.{flat_ext}
-use Rattle.printed.specs.Printing.{cell_line, cell_of, row_lines, cell_lines, those_below, stop_line, monitor_text}
-use Rattle.printed.specs.Writers.{halts, halts_into, text_from}
+use Rattle.printed.specs.Printing.{header, cell_line, cell_of, row_lines, cell_lines, those_below, stop_line, monitor_text}
+use Rattle.printed.specs.Writers.{halts, halts_into}
 
 halts_is : (o : Operation) (b : Bool) → (o ≡ Halt) ↔ (b ≡ true) → halts o ≡ b
 halts_is Halt b e = sym (e.0 refl)
@@ -47,6 +47,6 @@ module _ {d : Drawing} (well : WellDrawn d) {l : Marks} (is : l ≡ marks_of d) 
       flat_ext _ _ (states d) (λ s a. flat_ext _ _ (events d) (λ e b.
       ap (cell_line s e (next d s e)) (operation_at_is (next d s e) (well.closed s e a b))))
 
-  pub monitor_is : text_from Sound d.shape d.table l ≡ monitor_text d
+  pub monitor_is : header d.shape ++ (cell_lines (next d) (operation_in l) (events d) (states d) ++ stop_line (halts_into l) (states d)) ≡ monitor_text d
   unfolding monitor_text stop_line
   monitor_is = rw (cells_same, those_same (halts_into l) (stopping d) (states d) stops_at)

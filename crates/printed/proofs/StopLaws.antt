@@ -1,6 +1,6 @@
 -- Laws of the stopping states' line.
 -- Assumes nothing.
-use Prim.Native.Nat.{ℕ, zero, suc, ◌≤◌, ◌<◌}
+use Prim.Native.Nat.{ℕ, zero, suc, ◌<◌}
 use mathlib.Core.Path.{◌≡◌, refl, sym, ap, ◌∙◌}
 use mathlib.Core.Bool.{Bool, true, false, cond}
 use mathlib.Core.List.{List, [], ◌∷◌, ◌++◌, append_assoc, append-nil}
@@ -8,25 +8,31 @@ use native.Mathlib.Omega.{arith}
 use native.Mathlib.Decide.{ℕ_discrete}
 use lib.ListN.{length, length-append}
 use Rattle.rule.specs.declared.Operation.{Operation}
-use Rattle.rule.specs.declared.Operation.TheVariants.{Halt}
+use Rattle.rule.specs.declared.Operation.TheVariants.{Halt, Store, Dump}
 use Rattle.rulefile.specs.Layout.{flat_up_to}
 use Rattle.printed.specs.Text.{decimal, rest, line}
-use Rattle.printed.specs.Placing.{last_place, Put}
 use Rattle.printed.specs.Printing.{those_below, or_none, stop_line, stop_word}
 use Rattle.printed.specs.Writers.{halts, halts_into, stop_at}
 use Rattle.operations.specs.Marks.{operation_in}
 use Rattle.operations.specs.declared.Marks.{Marks}
-use Rattle.printed.proofs.PlacingLaws.{then, put_nothing, put_last}
+use Rattle.printed.specs.Writing.{Puts}
+use Rattle.printed.specs.declared.text.Text.{Text}
+use Rattle.printed.proofs.WritingLaws.{puts_then, puts_last}
+
+goes_on : (o : Operation) → (o ≡ Halt → ⊥) → halts o ≡ false
+goes_on Halt n = absurd (n refl)
+goes_on Store n = refl
+goes_on Dump n = refl
 
 -- what is put of one state
-module _ (marks : Marks) (q : ℕ) {o : Operation} (is : o ≡ operation_in marks q) {out : List ℕ} {at : ℕ} where
-  pub stop_put : {out' : List ℕ} {next : ℕ} → o ≡ Halt → Put out at (32 ∷ decimal q) next out' → Put out at (stop_at (halts_into marks) q) next out'
+module _ (marks : Marks) (q : ℕ) {o : Operation} (is : o ≡ operation_in marks q) where
+  pub stop_put : {r s : Text} → o ≡ Halt → Puts r s (32 ∷ decimal q) → Puts r s (stop_at (halts_into marks) q)
   unfolding stop_at halts_into
   stop_put e p = rw (← is, e) p
 
-  pub stop_not : {x : Operation} → o ≡ x → halts x ≡ false → length out ≤ last_place → at ≤ last_place → Put out at (stop_at (halts_into marks) q) at out
+  pub stop_not : (o ≡ Halt → ⊥) → stop_at (halts_into marks) q ≡ []
   unfolding stop_at halts_into
-  stop_not e n s h = rw (← is, e, n) (put_nothing out at s h)
+  stop_not n = rw (← is, goes_on o n)
 
 -- no word, or some, by what is put of them before the line's end
 by_words : (ws : List (List ℕ)) (l : List ℕ) → rest ws ≡ l ++ (10 ∷ [])
@@ -68,13 +74,13 @@ module _ (has : ℕ → Bool) (n : ℕ) where
   stop_some h = rw ((by_words (those_below has n) (stops has n) words).1 h)
 
   -- the line part by part: where no state was put, it has `-`
-  module _ {out out₁ out₂ out₃ : List ℕ} {at at₁ at₂ at₃ : ℕ} (p : Put out at stop_word at₁ out₁) (q : Put out₁ at₁ (stops has n) at₂ out₂) where
-    pub none_put : at₂ ≡ at₁ → Put out₂ at₂ (32 ∷ 45 ∷ 10 ∷ []) at₃ out₃ → Put out at (stop_line has n) at₃ out₃
-    none_put e r =
+  module _ {r s t u : Text} (p : Puts r s stop_word) (q : Puts s t (stops has n)) where
+    pub none_put : t.at ≡ s.at → Puts t u (32 ∷ 45 ∷ 10 ∷ []) → Puts r u (stop_line has n)
+    none_put e w =
         elim (ℕ_discrete (length (stops has n)) 0) [
-          | yes z ↦ rw (stop_none z) (then p (then q r))
-          | no d ↦ rw (stop_some (omega arith)) (then p (put_last (stops has n ++ (10 ∷ [])) (omega (arith, p.place, q.place)) (then q r)))
+          | yes z ↦ rw (stop_none z) (puts_then p (puts_then q w))
+          | no d ↦ rw (stop_some (omega arith)) (puts_then p (puts_last (stops has n ++ (10 ∷ [])) (omega (arith, p.put.place, q.put.place)) (puts_then q w)))
         ]
 
-    pub some_put : (at₂ ≡ at₁ → ⊥) → Put out₂ at₂ (10 ∷ []) at₃ out₃ → Put out at (stop_line has n) at₃ out₃
-    some_put d r = rw (stop_some (omega (arith, p.place, q.place))) (then p (then q r))
+    pub some_put : (t.at ≡ s.at → ⊥) → Puts t u (10 ∷ []) → Puts r u (stop_line has n)
+    some_put d w = rw (stop_some (omega (arith, p.put.place, q.put.place))) (puts_then p (puts_then q w))

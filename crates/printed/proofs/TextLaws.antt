@@ -7,8 +7,9 @@ use native.Mathlib.Omega.{arith}
 use lib.ListN.{drop}
 use borrow.Author.Tests.{lt-ltb, le-ltb}
 use Rattle.printed.specs.Text.{digit, decimal}
-use Rattle.printed.specs.Placing.{Put}
-use Rattle.printed.proofs.PlacingLaws.{then}
+use Rattle.printed.specs.Writing.{Puts}
+use Rattle.printed.specs.declared.text.Text.{Text}
+use Rattle.printed.proofs.WritingLaws.{puts_then}
 
 -- three digits, of which a number below 100 has the last two, and one below 10 the last
 abbrev pub digits : ℕ → List ℕ
@@ -27,12 +28,12 @@ unfolding decimal
 decimal_three n l = rw (le-ltb n 10 (omega arith), le-ltb n 100 l)
 
 -- a word, and then the digits that a number has
-module _ {out word out₁ out₂ : List ℕ} {at at₁ at₂ : ℕ} (n : ℕ) (p : Put out at word at₁ out₁) where
-  pub number_one : n < 10 → Put out₁ at₁ (drop 2 (digits n)) at₂ out₂ → Put out at (word ++ decimal n) at₂ out₂
-  number_one h q = rw (decimal_one n h) (then p q)
+module _ {r s t : Text} {word : List ℕ} (n : ℕ) (p : Puts r s word) where
+  pub number_one : n < 10 → Puts s t (drop 2 (digits n)) → Puts r t (word ++ decimal n)
+  number_one h q = rw (decimal_one n h) (puts_then p q)
 
-  pub number_two : 10 ≤ n → n < 100 → Put out₁ at₁ (drop 1 (digits n)) at₂ out₂ → Put out at (word ++ decimal n) at₂ out₂
-  number_two l h q = rw (decimal_two n l h) (then p q)
+  pub number_two : 10 ≤ n → n < 100 → Puts s t (drop 1 (digits n)) → Puts r t (word ++ decimal n)
+  number_two l h q = rw (decimal_two n l h) (puts_then p q)
 
-  pub number_three : 100 ≤ n → Put out₁ at₁ (digits n) at₂ out₂ → Put out at (word ++ decimal n) at₂ out₂
-  number_three h q = rw (decimal_three n h) (then p q)
+  pub number_three : 100 ≤ n → Puts s t (digits n) → Puts r t (word ++ decimal n)
+  number_three h q = rw (decimal_three n h) (puts_then p q)

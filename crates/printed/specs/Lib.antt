@@ -2,3 +2,4 @@ pub mod Text
 pub mod Placing
 pub mod Printing
 pub mod Writers
+pub mod Writing

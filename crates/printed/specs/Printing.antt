@@ -1,6 +1,6 @@
 -- The printed monitor of a rule file.
 -- Assumes nothing.
-use Rattle.std.specs.Prelude.{ℕ, zero, suc, Bool, cond, List, [], ◌∷◌, ◌++◌, length}
+use Rattle.std.specs.Prelude.{ℕ, zero, suc, Bool, cond, List, [], ◌∷◌, ◌++◌, length, Ok, Err}
 use Rattle.rule.specs.Drawing.{Drawing, states, events, next}
 use Rattle.rule.specs.Operations.{operation_at}
 use Rattle.rule.specs.Stopping.{stopping}
@@ -9,15 +9,13 @@ use Rattle.rule.specs.declared.Operation.{Operation}
 use Rattle.rule.specs.declared.Operation.TheVariants.{Halt, Store, Dump}
 use Rattle.rule.specs.declared.Shape.{Shape}
 use Rattle.rule.specs.declared.Told.{Told}
-use Rattle.rule.specs.declared.Verdict.{Verdict}
-use Rattle.rule.specs.declared.Verdict.TheVariants.{Sound, Refused as Unsound}
 use Rattle.rulefile.specs.Layout.{drawing_in, flat_up_to}
 use Rattle.rulefile.specs.Reading.{verdict_on}
 use Rattle.rule.specs.Putting.{PutPromise}
-use Rattle.rule.specs.declared.Written.{Written}
 use Rattle.printed.specs.Text.{decimal, line}
 use Rattle.rule.specs.Given.{Table, NoRows}
 use Rattle.rule.specs.Putting.{Put as Puts, put_order}
+use Rattle.rule.specs.Verdict.{Verdict, Written}
 
 -- the words rule, stop, refused, -
 abbrev pub rule_word : List ℕ
@@ -82,8 +80,8 @@ unfoldable pub refusal_line : Told → List ℕ
 refusal_line t = line refused_word (decimal t.number ∷ decimal t.a ∷ decimal t.b ∷ [])
 
 abbrev pub text_by : Verdict → Drawing → List ℕ
-text_by Sound d = monitor_text d
-text_by (Unsound r) d = refusal_line (told_of r)
+text_by (Ok _) d = monitor_text d
+text_by (Err r) d = refusal_line (told_of r)
 
 -- what is printed of a file
 unfoldable pub text_of : List ℕ → List ℕ
@@ -95,7 +93,7 @@ text_max = 32768
 
 -- the promise of printing: the text at the front of the output and every other byte as it was, or 16 and the output as it was where it does not fit
 abbrev pub PrintPromise : List ℕ → List ℕ → Written → List ℕ → Type 0
-PrintPromise f out w out' = PutPromise Sound (text_of f) out w out'
+PrintPromise f out w out' = PutPromise (Ok tt) (text_of f) out w out'
 
 -- it looks at nothing else: 16 where the text does not fit
 abbrev pub Printing : List ℕ → ℕ → Table

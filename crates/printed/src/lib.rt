@@ -1,46 +1,72 @@
 // The printed monitor: the text that the program `table` writes for a rule file (document 01, "The printed monitor").
 #![tactic(auto)]
 
-ghost use Rattle.printed.specs.Placing.{Put};
-ghost use Rattle.printed.specs.Printing.{PrintPromise};
+ghost use Rattle.std.specs.Prelude.{◌≡◌};
+ghost use Rattle.printed.specs.Printing.{text_of, PrintPromise};
 ghost use Rattle.printed.specs.Writers.{text_from};
+ghost use Rattle.printed.specs.Writing.{Puts};
 
 mod lines;
 mod text;
 
-use operations::{Marks, mark_states};
-use rule::{Refusal, Shape, Verdict, Written};
+use crate::lines::{Page, put_refusal};
+use crate::text::Text;
+use operations::mark_states;
+use reach::Moves;
+use rule::{Body, Refusal};
 
 // An output of so many bytes has room for every text.
 pub const TEXT_MAX: usize = 32768;
 
-// Prints what was found of a file to the front of the output: its refusal, or the monitor with the operation of a move into each state.
-fn put_text(out: &mut [u8], verdict: Verdict, shape: Shape, table: &[u8], marks: Marks) -> usize
-    ensures { Put out.old 0 (text_from verdict shape table.now marks) result out.new }
+// Puts what was found of a file: the monitor, or its refusal.
+fn put_found(text: &mut Text, found: Result<Page, Refusal>)
+    ensures { Puts text.old text.new (text_from found.entry) }
 {
-    if let Verdict::Refused(refusal) = verdict {
-        return lines::put_refusal(out, 0, refusal.told());
+    match found {
+        Ok(page) => page.put(text),
+        Err(refusal) => put_refusal(text, refusal.told()),
     }
-    let cells = lines::put_header(out, 0, shape);
-    let stop = lines::put_cells(out, cells, shape.states, table, shape.events, marks);
-    lines::put_stop_line(out, stop, shape.states, marks)
+}
+
+// What was found of a file. Its text is the file's.
+fn found_in(file: &[u8]) -> Result<Page<'_>, Refusal>
+    ensures { text_from result ≡ text_of file.now }
+{
+    let parts = rulefile::parts(file)?;
+    let shape = parts.shape;
+    let table = &file[parts.start..parts.end];
+    let marks = mark_states(Body {
+        shape,
+        table,
+        pairs: &parts.pairs,
+    });
+    // not `Moves::of`: the rule that is lent here has the pairs, which end with this function
+    let moves = Moves {
+        table,
+        states: shape.states,
+        events: shape.events,
+    };
+    Ok(Page {
+        shape,
+        moves,
+        marks,
+    })
 }
 
 // Prints a rule file's monitor, or its refusal, to the front of the output. A text that does not fit is refused 16.
-pub fn print(file: &[u8], out: &mut [u8]) -> Written
+pub fn print(file: &[u8], out: &mut [u8]) -> Result<usize, Refusal>
     ensures { PrintPromise file.now out.old result out.new }
 {
-    let parts = rulefile::parts(file);
-    let start = parts.start;
-    let end = parts.end;
-    let table = &file[start..end];
-    let verdict = parts.verdict;
-    let shape = parts.shape;
-    let pairs = parts.pairs;
-    let marks = mark_states(shape, table, pairs);
-    let size = put_text(&mut out[..0], verdict, shape, table, marks);
-    if out.len() < size {
-        return Written::Refused(Refusal::Room);
+    let found = found_in(file);
+    let mut measure = Text {
+        out: &mut [],
+        at: 0,
+    };
+    put_found(&mut measure, found);
+    if out.len() < measure.at {
+        return Err(Refusal::Room);
     }
-    Written::Done(put_text(out, verdict, shape, table, marks))
+    let mut text = Text { out, at: 0 };
+    put_found(&mut text, found);
+    Ok(text.at)
 }

@@ -1,125 +1,119 @@
-// The lines of a printed monitor, into an output from a place on. Each writer answers the place after what it wrote.
+// The lines of a printed monitor, put into a text one after the other.
 ghost use Rattle.std.specs.Prelude.{◌≡◌};
 ghost use Rattle.rule.specs.Reach.{target};
 ghost use Rattle.rulefile.specs.Layout.{flat_up_to};
-ghost use Rattle.printed.specs.Placing.{Put};
 ghost use Rattle.printed.specs.Printing.{header, cell_of, row_lines, cell_lines, stop_line, refusal_line};
-ghost use Rattle.printed.specs.Writers.{cell_end, halts_into, stop_at};
+ghost use Rattle.printed.specs.Writers.{cell_end, halts_into, stop_at, page_text};
+ghost use Rattle.printed.specs.Writing.{Puts};
 ghost use Rattle.operations.specs.Marks.{operation_in};
 
-use crate::text::{put, put_number, put_two};
+use crate::text::Text;
 use operations::Marks;
-use reach::next;
+use reach::Moves;
 use rule::{EventNo, Operation, Shape, StateNo, Told};
 
 // The first line: class, N, K, m, initial state.
-pub(crate) fn put_header(out: &mut [u8], at: usize, shape: Shape) -> usize
-    ensures { Put out.old at (header shape) result out.new }
+fn put_header(text: &mut Text, shape: Shape)
+    ensures { Puts text.old text.new (header shape) }
 {
     let initial = shape.initial;
-    let mut end = put_number(out, at, b"rule ", shape.class);
-    end = put_two(out, end, shape.states, shape.events);
-    end = put_two(out, end, shape.pairs, initial.0);
-    put(out, end, b"\n")
+    text.put_number(b"rule ", shape.class);
+    text.put_two(shape.states, shape.events);
+    text.put_two(shape.pairs, initial.0);
+    text.put(b"\n");
 }
 
 // The only line of a refusal: its number and places.
-pub(crate) fn put_refusal(out: &mut [u8], at: usize, told: Told) -> usize
-    ensures { Put out.old at (refusal_line told) result out.new }
+pub(crate) fn put_refusal(text: &mut Text, told: Told)
+    ensures { Puts text.old text.new (refusal_line told) }
 {
-    let mut end = put_number(out, at, b"refused ", told.number);
-    end = put_two(out, end, told.a, told.b);
-    put(out, end, b"\n")
+    text.put_number(b"refused ", told.number);
+    text.put_two(told.a, told.b);
+    text.put(b"\n");
 }
 
-// The end of a cell: the operation's word after a space, and the end of the line.
-fn put_operation(out: &mut [u8], at: usize, operation: Operation) -> usize
-    ensures { Put out.old at (cell_end operation) result out.new }
+// The end of a cell: the operation's word after a space, and the end of the line. No Display has a contract that says the bytes.
+fn put_operation(text: &mut Text, operation: Operation)
+    ensures { Puts text.old text.new (cell_end operation) }
 {
     match operation {
-        Operation::Halt => put(out, at, b" halt\n"),
-        Operation::Store => put(out, at, b" store\n"),
-        Operation::Dump => put(out, at, b" dump\n"),
+        Operation::Halt => text.put(b" halt\n"),
+        Operation::Store => text.put(b" store\n"),
+        Operation::Dump => text.put(b" dump\n"),
     }
 }
 
-// A cell: state, event, next state, operation.
-fn put_cell(
-    out: &mut [u8],
-    at: usize,
-    s: StateNo,
-    e: EventNo,
-    table: &[u8],
-    events: u8,
-    marks: Marks,
-) -> usize
-    ensures { Put out.old at (cell_of (target table.now events) (operation_in marks) s.0 e.0) result out.new }
-{
-    let t = next(table, events, s, e);
-    let mut end = put_number(out, at, b"", s.0);
-    end = put_two(out, end, e.0, t.0);
-    put_operation(out, end, marks.at(t))
+// What a monitor is printed from: the shape and the moves of its rule, and the operation of a move into each state.
+#[derive(Clone, Copy)]
+pub(crate) struct Page<'a> {
+    pub(crate) shape: Shape,
+    pub(crate) moves: Moves<'a>,
+    pub(crate) marks: Marks,
 }
 
-// The cells of a state.
-fn put_row(out: &mut [u8], at: usize, s: StateNo, table: &[u8], events: u8, marks: Marks) -> usize
-    ensures { Put out.old at (row_lines (target table.now events) (operation_in marks) events s.0) result out.new }
-{
-    let mut end = at;
-    for e in 0..events {
-        end = put_cell(out, end, s, EventNo(e), table, events, marks);
+impl<'a> Page<'a> {
+    // A cell: state, event, next state, operation.
+    fn put_cell(self, text: &mut Text, s: StateNo, e: EventNo)
+        ensures { Puts text.old text.new
+            (cell_of (target self.entry.moves.table.now self.entry.moves.events) (operation_in self.entry.marks) s.0 e.0) }
+    {
+        let t = self.moves.next(s, e);
+        text.put_number(b"", s.0);
+        text.put_two(e.0, t.0);
+        put_operation(text, self.marks.at(t));
     }
-    end
-}
 
-// The cells of all states, row by row.
-pub(crate) fn put_cells(
-    out: &mut [u8],
-    at: usize,
-    states: u8,
-    table: &[u8],
-    events: u8,
-    marks: Marks,
-) -> usize
-    ensures { Put out.old at (cell_lines (target table.now events) (operation_in marks) events states) result out.new }
-{
-    let mut end = at;
-    for s in 0..states {
-        end = put_row(out, end, StateNo(s), table, events, marks);
+    // The cells of a state.
+    fn put_row(self, text: &mut Text, s: StateNo)
+        ensures { Puts text.old text.new
+            (row_lines (target self.entry.moves.table.now self.entry.moves.events) (operation_in self.entry.marks) self.entry.moves.events s.0) }
+    {
+        for e in 0..self.moves.events {
+            self.put_cell(text, s, EventNo(e));
+        }
     }
-    end
-}
 
-// A state after a space where a move into it halts.
-fn put_stop(out: &mut [u8], at: usize, q: StateNo, marks: Marks) -> usize
-    ensures { Put out.old at (stop_at (halts_into marks) q.0) result out.new }
-{
-    match marks.at(q) {
-        Operation::Halt => put_number(out, at, b" ", q.0),
-        Operation::Store => at,
-        Operation::Dump => at,
+    // The cells of all states, row by row.
+    fn put_cells(self, text: &mut Text)
+        ensures { Puts text.old text.new (cell_lines (target self.entry.moves.table.now self.entry.moves.events) (operation_in self.entry.marks)
+            self.entry.moves.events self.entry.moves.states) }
+    {
+        for s in 0..self.moves.states {
+            self.put_row(text, StateNo(s));
+        }
     }
-}
 
-// Each such state, rising.
-fn put_stops(out: &mut [u8], at: usize, states: u8, marks: Marks) -> usize
-    ensures { Put out.old at (flat_up_to (stop_at (halts_into marks)) states) result out.new }
-{
-    let mut end = at;
-    for q in 0..states {
-        end = put_stop(out, end, StateNo(q), marks);
+    // Each state into which a move halts after a space, rising.
+    fn put_stops(self, text: &mut Text)
+        ensures { Puts text.old text.new (flat_up_to (stop_at (halts_into self.entry.marks)) self.entry.moves.states) }
+    {
+        for q in 0..self.moves.states {
+            if let Operation::Halt = self.marks.at(StateNo(q)) {
+                text.put_number(b" ", q);
+            }
+        }
     }
-    end
-}
 
-// The last line: the stopping states, which are those into which a move halts.
-pub(crate) fn put_stop_line(out: &mut [u8], at: usize, states: u8, marks: Marks) -> usize
-    ensures { Put out.old at (stop_line (halts_into marks) states) result out.new }
-{
-    let words = put(out, at, b"stop");
-    let stops = put_stops(out, words, states, marks);
-    if stops == words {
-        return put(out, stops, b" -\n");
+    // The last line: the stopping states, which are those into which a move halts.
+    fn put_stop_line(self, text: &mut Text)
+        ensures { Puts text.old text.new (stop_line (halts_into self.entry.marks) self.entry.moves.states) }
+    {
+        text.put(b"stop");
+        let words = text.at;
+        self.put_stops(text);
+        if text.at == words {
+            text.put(b" -\n");
+        } else {
+            text.put(b"\n");
+        }
     }
-    put(out, stops, b"\n")
+
+    // All of it.
+    pub(crate) fn put(self, text: &mut Text)
+        ensures { Puts text.old text.new (page_text self.entry) }
+    {
+        put_header(text, self.shape);
+        self.put_cells(text);
+        self.put_stop_line(text);
+    }
 }

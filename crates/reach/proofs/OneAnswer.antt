@@ -10,20 +10,23 @@ contains_one_answer κs a x y = (x.told ∙ sym y.told, refl)
 pub insert_one_answer : OneAnswer contracts.sets.insert.ended proofs.sets.insert.Reads.Learnt
 insert_one_answer κs a x y = (x.told ∙ sym y.told, refl)
 
-pub next_one_answer : OneAnswer contracts.next.ended proofs.next.Reads.Learnt
-next_one_answer κs a x y = (λ i. record { 0 = (x.told ∙ sym y.told) i }, refl)
+pub moves_of_one_answer : OneAnswer contracts.Moves.of.ended proofs.Moves.of.Reads.Learnt
+moves_of_one_answer κs a x y = (x.told ∙ sym y.told, refl)
 
-pub reached_within_one_answer : OneAnswer contracts.reached_within.ended proofs.reached_within.Reads.Learnt
-reached_within_one_answer κs a x y = (x.told ∙ sym y.told, refl)
+pub moves_next_one_answer : OneAnswer contracts.Moves.next.ended proofs.Moves.next.Reads.Learnt
+moves_next_one_answer κs a x y = (λ i. record { 0 = (x.told ∙ sym y.told) i }, refl)
 
-pub reached_one_answer : OneAnswer contracts.reached.ended proofs.reached.Reads.Learnt
-reached_one_answer κs a x y = (x.told ∙ sym y.told, refl)
+pub moves_reached_within_one_answer : OneAnswer contracts.Moves.reached_within.ended proofs.Moves.reached_within.Reads.Learnt
+moves_reached_within_one_answer κs a x y = (x.told ∙ sym y.told, refl)
 
-pub with_moves_one_answer : OneAnswer contracts.with_moves.ended proofs.with_moves.Reads.Learnt
-with_moves_one_answer κs a x y = (x.told ∙ sym y.told, refl)
+pub moves_reached_one_answer : OneAnswer contracts.Moves.reached.ended proofs.Moves.reached.Reads.Learnt
+moves_reached_one_answer κs a x y = (x.told ∙ sym y.told, refl)
 
-pub event_into_one_answer : OneAnswer contracts.event_into.ended proofs.event_into.Reads.Learnt
-event_into_one_answer κs a x y = (x.told ∙ sym y.told, refl)
+pub moves_with_moves_one_answer : OneAnswer contracts.Moves.with_moves.ended proofs.Moves.with_moves.Reads.Learnt
+moves_with_moves_one_answer κs a x y = (x.told ∙ sym y.told, refl)
 
-pub backward_one_answer : OneAnswer contracts.backward.ended proofs.backward.Reads.Learnt
-backward_one_answer κs a x y = (x.told ∙ sym y.told, refl)
+pub moves_event_into_one_answer : OneAnswer contracts.Moves.event_into.ended proofs.Moves.event_into.Reads.Learnt
+moves_event_into_one_answer κs a x y = (x.told ∙ sym y.told, refl)
+
+pub moves_backward_one_answer : OneAnswer contracts.Moves.backward.ended proofs.Moves.backward.Reads.Learnt
+moves_backward_one_answer κs a x y = (x.told ∙ sym y.told, refl)

@@ -2,24 +2,29 @@
 -- Assumes nothing.
 use mathlib.Core.Path.{◌≡◌, refl, sym, ap, ◌∙◌}
 use mathlib.Core.Bool.{Bool, true, false}
-use mathlib.Core.List.{List}
-use Prim.Native.Nat.{ℕ, zero, suc, ◌+◌, ◌-◌, ◌/◌, ◌%◌, ◌^◌, ◌≤◌, ◌<◌}
+use mathlib.Core.List.{List, map}
+use Prim.Native.Nat.{ℕ, zero, suc, ◌+◌, ◌-◌, ◌*◌, ◌/◌, ◌%◌, ◌^◌, ◌≤◌, ◌<◌}
 use native.Mathlib.Omega.{arith}
 use native.Mathlib.Nat.{add-zero, add-suc}
 use native.Mathlib.Numerals.{add-one}
-use lib.ListN.{length, get_or, get_or-eq_default}
-use lib.Bits.{bit_xor}
+use lib.ListN.{length, get_or, take}
+use lib.Bits.{bit_and, bit_xor, and_le_l}
 use lib.Count.{count_trailing_zeros}
-use lib.Dec.{ltb}
-use lib.Pow.{shr-shr, shr_le}
-use mir.Syntax.{w8}
-use mir.Val.{Fits}
-use borrow.Author.Tests.{lt-ltb, le-ltb}
-use Rattle.rule.specs.Backward.{with_source, swept_up, swept_down}
+use lib.Dec.{eqb}
+use mir.Syntax.{w64}
+use Rattle.std.specs.List.{fold, range_with_len, slice_range, AllWithin, HoldsAt}
+use Rattle.std.specs.Option.{MatchOption, unwrap_or}
+use Rattle.std.specs.Prelude.{Option, None, Some}
+use Rattle.std.proofs.lemmas.Nat.Bits.{bit_at_clear_same, bit_at_clear_other}
+use Rattle.std.proofs.lemmas.List.Edits.{length-between, get_or-between}
+use Rattle.std.proofs.lemmas.List.Folds.{fold-map}
+use Rattle.std.proofs.lemmas.List.FromFn.{length-map-range_with_len, get_or-map-range_with_len}
+use Rattle.std.proofs.lemmas.List.Sums.{fold_more}
+use lib.Seq.{take_all}
 use Rattle.rule.specs.Ways.{event_into}
 use Rattle.rule.specs.Sets.{has, including}
 use Rattle.rule.specs.Reach.{place_of, target, with_moves, moved_below, moved_set, spread, reached_within}
-use Rattle.rule.proofs.SetLaws.{has_of_bit, bit_of_has, has_none, has_past, has_shifted, lowest_in, lowest_first, below_or, true_or, including_old}
+use Rattle.rule.proofs.SetLaws.{has_of_bit, bit_of_has, has_none, has_past, lowest_in, lowest_first, below_or}
 use Rattle.rule.proofs.MoveLaws.{moved_fresh}
 use Rattle.rule.proofs.BoolLaws.{clash, not_so}
 use Rattle.rule.proofs.LeastLaws.{least_is, least_none}
@@ -35,98 +40,114 @@ module _ (x i : ℕ) where
       (λ l. let e : i % 64 ≡ i = omega arith in sym (not_so (has x i) (λ m. d (rw e (bit_of_has x i m)))))
       (λ l. sym (has_past 64 x i h l))
 
+-- a row of the table, and the moves of its state, one at a time
+module _ (table : List ℕ) (k s : ℕ) where
+  abbrev pub row_of : List ℕ
+  row_of = slice_range table (place_of k s 0) (place_of k s k)
+
+  module _ (whole : place_of k s k ≤ length table) where
+    pub row_length : length row_of ≡ k
+    row_length = length-between table (place_of k s 0) (place_of k s k) whole ∙ omega arith
+
+    pub row_at : (e : ℕ) → e < k → get_or row_of e 0 ≡ target table k s e
+    unfolding target
+    row_at e h =
+        let q : place_of k s 0 + e ≡ place_of k s e = omega arith in
+        get_or-between table (place_of k s 0) (place_of k s k) e 0 (omega arith) ∙ ap (λ i. get_or table i 0) q
+
+  moves_front : (x : ℕ) (ts : List ℕ) (n : ℕ) → n ≤ length ts → ((e : ℕ) → e < n → get_or ts e 0 ≡ target table k s e)
+      → fold including x (take n ts) ≡ with_moves table k s x n
+  unfolding with_moves
+  moves_front x ts zero l is = refl
+  moves_front x ts (suc n) l is =
+      rw (← add-one, fold_more including x ts n 0 l, moves_front x ts n (omega arith) (λ e h. is e (omega arith)), is n (omega arith))
+
+  moves_all : (x : ℕ) (ts : List ℕ) → length ts ≡ k → ((e : ℕ) → e < k → get_or ts e 0 ≡ target table k s e)
+      → fold including x ts ≡ with_moves table k s x k
+  moves_all x ts l is = rw (take_all k ts (omega arith)) at (moves_front x ts k (omega arith) is)
+
+  -- off a whole row
+  pub moves_row : (x : ℕ) (row : List ℕ) (r : ℕ) → place_of k s k ≤ length table → row ≡ row_of → r ≡ fold including x row → r ≡ with_moves table k s x k
+  moves_row x row r whole are is = is ∙ rw are (moves_all x row_of (row_length whole) (row_at whole))
+
+  -- cell by cell
+  pub moves_cells : (x r : ℕ) → r ≡ fold (λ out e. including out (target table k s e)) x (range_with_len 0 k) → r ≡ with_moves table k s x k
+  moves_cells x r is =
+      is ∙ sym (fold-map including (target table k s) x (range_with_len 0 k))
+      ∙ moves_all x (map (target table k s) (range_with_len 0 k)) (length-map-range_with_len (target table k s) 0 k)
+      (λ e h. get_or-map-range_with_len (target table k s) 0 k e e 0 h (omega arith))
+
+-- the moves from the members of x, added to y
 module _ (table : List ℕ) (k : ℕ) where
-  -- past the table every move leads to state 0
-  -- the cell at a place, in the table and past it
-  pub target_at : (s e i : ℕ) → i ≡ place_of k s e → get_or table i 0 ≡ target table k s e
-  unfolding target
-  target_at s e i q = rw q
-
-  pub target_past : (s e i : ℕ) → i ≡ place_of k s e → length table ≤ i → 0 ≡ target table k s e
-  target_past s e i q h = sym (get_or-eq_default table 0 h) ∙ target_at s e i q
-
-  pub moves_none : (s x : ℕ) → x ≡ with_moves table k s x 0
-  unfolding with_moves
-  moves_none s x = refl
-
-  pub moves_more : (s x e out t r : ℕ) → out ≡ with_moves table k s x e → t ≡ target table k s e → r ≡ including out t → r ≡ with_moves table k s x (e + 1)
-  unfolding with_moves
-  moves_more s x e out t r io it ir = rw add-one (cc)
-
-  -- the same of a cell that is read at its place
-  pub moves_read : (s x e out i r : ℕ) → out ≡ with_moves table k s x e → i ≡ place_of k s e → r ≡ including out (get_or table i 0)
-      → r ≡ with_moves table k s x (e + 1)
-  moves_read s x e out i r io q ir = moves_more s x e out (get_or table i 0) r io (target_at s e i q) ir
-
-  -- all events of a row
-  pub moves_all : (s x e out : ℕ) → e ≤ k → k ≤ e → out ≡ with_moves table k s x e → out ≡ with_moves table k s x k
-  moves_all s x e out le ge io = let q : e ≡ k = omega arith in cc
-
--- what is left of x after the states below s, and its lowest member
-module _ (x s rest : ℕ) (ir : rest ≡ x / 2 ^ s) where
-  rest_in : (i : ℕ) → has rest i ≡ has x (s + i)
-  rest_in i = rw ir (has_shifted s x i)
-
-  lowest_has : x < 2 ^ 64 → (rest ≡ 0 → ⊥) → has x (s + count_trailing_zeros 64 rest) ≡ true
-  lowest_has h d = sym (rest_in (count_trailing_zeros 64 rest)) ∙ lowest_in 64 rest (omega (arith, shr_le x s)) d
-
-  lowest_lt : x < 2 ^ 64 → (rest ≡ 0 → ⊥) → s + count_trailing_zeros 64 rest < 64
-  lowest_lt h d =
-      below_or (s + count_trailing_zeros 64 rest) 64
-      (λ l. l)
-      (λ l. clash (lowest_has h d) (has_past 64 x (s + count_trailing_zeros 64 rest) h l))
-
-  -- it fits, and so does what comes after it
-  pub lowest_fits : x < 2 ^ 64 → (rest ≡ 0 → ⊥) → Fits w8 (s + count_trailing_zeros 64 rest)
-  lowest_fits h d = omega (arith, lowest_lt h d)
-
-  pub lowest_shift : x < 2 ^ 64 → (rest ≡ 0 → ⊥) → count_trailing_zeros 64 rest < 64
-  lowest_shift h d = omega (arith, lowest_lt h d)
-
-  pub after_fits : x < 2 ^ 64 → (rest ≡ 0 → ⊥) → Fits w8 (s + count_trailing_zeros 64 rest + 1)
-  after_fits h d = omega (arith, lowest_lt h d)
-
-  pub after_le : x < 2 ^ 64 → (rest ≡ 0 → ⊥) → s + count_trailing_zeros 64 rest + 1 ≤ 64
-  after_le h d = omega (arith, lowest_lt h d)
-
-  pub after_less : x < 2 ^ 64 → (rest ≡ 0 → ⊥) → 64 - (s + count_trailing_zeros 64 rest + 1) < 64 - s
-  after_less h d = omega (arith, lowest_lt h d)
-
-  pub rest_more : (g : ℕ) → rest / 2 ^ g / 2 ^ 1 ≡ x / 2 ^ (s + g + 1)
-  rest_more g = rw (ir, shr-shr x s g, shr-shr x (s + g) 1)
-
--- the moves from the members of x, added to y; the states below s are done, and `rest` has the others
-module _ (table : List ℕ) (k x y : ℕ) where
-  pub below_none : y ≡ moved_below table k x y 0
-  unfolding moved_below
-  below_none = refl
-
   -- states that are no members add nothing
-  below_skips : (s j : ℕ) → ((i : ℕ) → i < j → has x (s + i) ≡ false) → moved_below table k x y (s + j) ≡ moved_below table k x y s
+  moved_none : (x y n : ℕ) → ((i : ℕ) → i < n → has x i ≡ false) → moved_below table k x y n ≡ y
   unfolding moved_below
-  below_skips s zero none = rw add-zero
-  below_skips s (suc j) none = rw (add-suc, none j (omega arith)) (below_skips s j (λ i l. none i (omega arith)))
+  moved_none x y zero none = refl
+  moved_none x y (suc n) none = rw (none n (omega arith)) (moved_none x y n (λ i h. none i (omega arith)))
 
-  -- none is left, or none that is one of the n states
-  module _ (s rest out : ℕ) (ir : rest ≡ x / 2 ^ s) (io : out ≡ moved_below table k x y s) where
-    below_to : (n : ℕ) → s ≤ n → ((i : ℕ) → i < n - s → has rest i ≡ false) → out ≡ moved_below table k x y n
-    below_to n l none =
-        let e : s + (n - s) ≡ n = omega arith in
-        io ∙ sym (rw e at (below_skips s (n - s) (λ i h. sym (rest_in x s rest ir i) ∙ none i h)))
+  -- two sets with the same members from m on
+  moved_alike : (x y z w m j : ℕ) → ((i : ℕ) → m ≤ i → has z i ≡ has x i) → moved_below table k z w m ≡ moved_below table k x y m
+      → moved_below table k z w (m + j) ≡ moved_below table k x y (m + j)
+  unfolding moved_below
+  moved_alike x y z w m zero same is = rw add-zero is
+  moved_alike x y z w m (suc j) same is = rw (add-suc, same (m + j) (omega arith), moved_alike x y z w m j same is)
 
-    pub below_end : (n : ℕ) → rest ≡ 0 → s ≤ n → out ≡ moved_below table k x y n
-    below_end n z l = below_to n l (λ i h. rw z (has_none i))
+  pub moved_end : (x y n : ℕ) → x ≡ 0 → y ≡ moved_below table k x y n
+  moved_end x y n z = sym (moved_none x y n (λ i h. rw z (has_none i)))
 
-    pub below_stop : (n : ℕ) → n ≤ s + count_trailing_zeros 64 rest → s ≤ n → out ≡ moved_below table k x y n
-    below_stop n g l = below_to n l (λ i h. lowest_first 64 rest i (omega arith))
+  -- the lowest member
+  module _ (x y n : ℕ) (h : x < 2 ^ 64) (d : x ≡ 0 → ⊥) where
+    abbrev s : ℕ
+    s = count_trailing_zeros 64 x
 
-    -- the moves from the lowest member left
-    pub below_more : (r : ℕ) → x < 2 ^ 64 → (rest ≡ 0 → ⊥) → r ≡ with_moves table k (s + count_trailing_zeros 64 rest) out k
-        → r ≡ moved_below table k x y (s + count_trailing_zeros 64 rest + 1)
+    abbrev rest : ℕ
+    rest = bit_and x (2 ^ 64 - 1 - 1 * 2 ^ s % 2 ^ 64)
+
+    in_s : has x s ≡ true
+    in_s = lowest_in 64 x h d
+
+    pub lowest_lt : s < 64
+    lowest_lt = below_or s 64 (λ l. l) (λ l. clash in_s (has_past 64 x s h l))
+
+    -- is none of the n states
+    pub moved_stop : n ≤ s → y ≡ moved_below table k x y n
+    moved_stop g = sym (moved_none x y n (λ i l. lowest_first 64 x i (omega arith)))
+
+    rest_lt : rest < 2 ^ 64
+    rest_lt = omega (arith, and_le_l x (2 ^ 64 - 1 - 1 * 2 ^ s % 2 ^ 64))
+
+    rest_out : has rest s ≡ false
+    unfolding has
+    rest_out = rw (bit_at_clear_same w64 x s lowest_lt)
+
+    rest_in : (i : ℕ) → (i ≡ s → ⊥) → has rest i ≡ has x i
+    unfolding has
+    rest_in i o =
+        below_or i 64
+        (λ l. ap (λ b. eqb b 1) (bit_at_clear_other w64 x s lowest_lt i l o))
+        (λ l. has_past 64 rest i rest_lt l ∙ sym (has_past 64 x i h l))
+
+    -- is one of them, and is taken out
+    pub moved_more : (z r : ℕ) → s < n → moved_below table k x y n ≡ r → z ≡ with_moves table k s y k → moved_below table k rest z n ≡ r
     unfolding moved_below
-    below_more r h d is =
-        rw (add-one, lowest_has x s rest ir h d)
-        (is ∙ ap (λ z. with_moves table k (s + count_trailing_zeros 64 rest) z k) (below_stop (s + count_trailing_zeros 64 rest) (omega arith) (omega arith)))
+    moved_more z r l is iz =
+        let here : moved_below table k rest z (suc s) ≡ moved_below table k x y (suc s) =
+        rw (
+          rest_out,
+          in_s,
+          moved_none rest z s (λ i g. rest_in i (omega arith) ∙ lowest_first 64 x i g),
+          moved_none x y s (λ i g. lowest_first 64 x i g),
+        ) iz in
+        let e : suc s + (n - suc s) ≡ n = omega arith in
+        rw e at (moved_alike x y rest z (suc s) (n - suc s) (λ i g. rest_in i (omega arith)) here) ∙ is
+
+    pub rest_less : rest < x
+    rest_less =
+        below_or rest x
+        (λ l. l)
+        (λ g.
+        let e : rest ≡ x = omega (arith, and_le_l x (2 ^ 64 - 1 - 1 * 2 ^ s % 2 ^ 64)) in
+        clash in_s (rw e at rest_out))
 
 module _ (table : List ℕ) (n k : ℕ) where
   -- a move first or a move last
@@ -167,83 +188,65 @@ module _ (table : List ℕ) (n k : ℕ) where
   unfolding reached_within
   within q m x r ix ir = cc
 
-  -- the loop from x₀: what is reached from here in the moves left is what is reached from the start in all of them
-  module _ (x₀ m₀ x m : ℕ) (rest : spread table n k x (m - 1) ≡ spread table n k x₀ m₀) where
-    pub loop_done : (q : ℕ) → x₀ ≡ including 0 q → m ≤ 1 → x ≡ reached_within table n k q m₀
-    loop_done q is h = within q m₀ x₀ x is (spread_none x (m - 1) (omega arith) ∙ rest)
+  -- the loop from x₀, i moves on: what is reached from here in the moves left is what is reached from the start in all of them
+  module _ (x₀ x i : ℕ) (left : spread table n k x (n - i) ≡ spread table n k x₀ (n - 1)) where
+    pub loop_done : (q : ℕ) → x₀ ≡ including 0 q → n ≤ i → x ≡ reached_within table n k q (n - 1)
+    loop_done q is h = within q (n - 1) x₀ x is (spread_none x (n - i) (omega arith) ∙ left)
 
     module _ (f y : ℕ) (is_y : y ≡ moved_below table k f x n) (only : moved_below table k f x n ≡ moved_set table n k x) where
-      pub loop_stops : (q : ℕ) → x₀ ≡ including 0 q → y ≡ x → x ≡ reached_within table n k q m₀
-      loop_stops q is same = within q m₀ x₀ x is (spread_stops x f y is_y only (m - 1) same ∙ rest)
+      pub loop_stops : (q : ℕ) → x₀ ≡ including 0 q → y ≡ x → x ≡ reached_within table n k q (n - 1)
+      loop_stops q is same = within q (n - 1) x₀ x is (spread_stops x f y is_y only (n - i) same ∙ left)
 
-      pub loop_more : 1 < m → spread table n k y (m - 1 - 1) ≡ spread table n k x₀ m₀
-      loop_more h = spread_more x f y is_y only (m - 1) (spread table n k y (m - 1 - 1)) (λ z. omega arith) refl ∙ rest
+      pub loop_more : i < n → spread table n k y (n - (i + 1)) ≡ spread table n k x₀ (n - 1)
+      loop_more h =
+          let e : n - i - 1 ≡ n - (i + 1) = omega arith in
+          rw e at (spread_more x f y is_y only (n - i) (spread table n k y (n - i - 1)) (λ z. omega arith) refl) ∙ left
 
--- the lowest event of a row that leads into x: none of those below e does
+-- the lowest event of a row that leads into x
 module _ (table : List ℕ) (k s x : ℕ) where
-  abbrev pub NoneYet : ℕ → Type 0
-  NoneYet e = (i : ℕ) → i < e → has x (target table k s i) ≡ false
-
-  pub none_yet : NoneYet 0
-  none_yet i h = absurd (omega arith)
-
-  module _ (e t : ℕ) (is-t : t ≡ target table k s e) (b : Bool) (is : b ≡ has x t) (before : NoneYet e) where
-    pub into_more : b ≡ false → NoneYet (e + 1)
-    into_more o i h = below_or i e (λ l. before i l) (λ l. let q : i ≡ e = omega arith in rw (q, ← is-t) (sym is ∙ o))
-
-    pub into_found : e < k → b ≡ true → e ≡ event_into (target table k) k x s
-    unfolding event_into
-    into_found h y = sym (least_is (λ e. has x (target table k s e)) k e h (rw (← is-t) (sym is ∙ y)) before)
-
-  -- the same of a cell that is read at its place, by its bit
-  module _ (e i : ℕ) (q : i ≡ place_of k s e) (before : NoneYet e) where
-    pub bit_more : x < 2 ^ 64 → (x / 2 ^ (get_or table i 0 % 64) % 2 ≡ 1 → ⊥) → NoneYet (e + 1)
-    bit_more h d = into_more e (get_or table i 0) (target_at table k s e i q) false (bit_none x (get_or table i 0) h d) before refl
-
-    pub bit_found : e < k → get_or table i 0 < 64 → x / 2 ^ (get_or table i 0 % 64) % 2 ≡ 1 → e ≡ event_into (target table k) k x s
-    bit_found h l o = into_found e (get_or table i 0) (target_at table k s e i q) true (bit_one x (get_or table i 0) l o) before h refl
+  abbrev into : ℕ → Bool
+  into e = has x (target table k s e)
 
   pub into_empty : x ≡ 0 → k ≡ event_into (target table k) k x s
   unfolding event_into
-  into_empty z = sym (least_none (λ e. has x (target table k s e)) k (λ i h. rw z (has_none (target table k s i))))
+  into_empty z = sym (least_none into k (λ i h. rw z (has_none (target table k s i))))
 
-  pub into_never : (e : ℕ) → e ≤ k → k ≤ e → NoneYet e → k ≡ event_into (target table k) k x s
+  -- found cell by cell
+  pub into_cells : (r : Option ℕ)
+      → MatchOption r ((e : ℕ) → 0 ≤ e → e < k → into e ≡ false) (λ e. (0 ≤ e) × (e < k) × (into e ≡ true) × ((i : ℕ) → 0 ≤ i → i < e → into i ≡ false))
+      → unwrap_or r k ≡ event_into (target table k) k x s
   unfolding event_into
-  into_never e le ge before = sym (least_none (λ e. has x (target table k s e)) k (λ i h. before i (omega arith)))
+  into_cells None none = sym (least_none into k (λ i h. none i (omega arith) h))
+  into_cells (Some e) found = sym (least_is into k e found.1 found.2 (λ i h. found.3 i (omega arith) h))
 
--- a set with a state that leads into it: the state is a member, it does lead, it does not
-module _ (next : ℕ → ℕ → ℕ) (k s x : ℕ) where
-  pub source_in : {b : Bool} → b ≡ has x s → b ≡ true → x ≡ with_source next k x s
-  unfolding with_source
-  source_in is y = true_or (ltb (event_into next k x s) k) (λ l. rw (l, including_old x s (sym is ∙ y))) (λ l. rw l)
+  -- found in a whole row, by the bit of its cell
+  module _ (h : x < 2 ^ 64) (row : List ℕ) (whole : place_of k s k ≤ length table) (is : row ≡ row_of table k s) where
+    cell : (e : ℕ) → e < k → get_or row e 0 ≡ target table k s e
+    cell e l = rw is (row_at table k s whole e l)
 
-  module _ (e : ℕ) (is : e ≡ event_into next k x s) where
-    pub source_new : (r : ℕ) → e < k → r ≡ including x s → r ≡ with_source next k x s
-    unfolding with_source
-    source_new r h q = rw (← is, lt-ltb e k h) q
+    long : length row ≡ k
+    long = rw is (row_length table k s whole)
 
-    pub source_none : k ≤ e → x ≡ with_source next k x s
-    unfolding with_source
-    source_none h = rw (← is, le-ltb e k h)
+    -- a cell whose bit is not set leads to no member
+    not_into : (n : ℕ) → n ≤ k → AllWithin (λ t. x / 2 ^ (t % 64) % 2 ≡ 1 → ⊥) row 0 n → (e : ℕ) → e < n → into e ≡ false
+    not_into n l none e g = rw (← cell e (omega arith)) (sym (bit_none x (get_or row e 0) h (none e 0 (omega arith) g)))
 
--- a sweep up and a sweep down
-module _ (next : ℕ → ℕ → ℕ) (k x : ℕ) where
-  pub up_none : x ≡ swept_up next k x 0
-  unfolding swept_up
-  up_none = refl
+    pub into_never : AllWithin (λ t. x / 2 ^ (t % 64) % 2 ≡ 1 → ⊥) row 0 (length row) → k ≡ event_into (target table k) k x s
+    unfolding event_into
+    into_never none = sym (least_none into k (not_into k (omega arith) (rw long at none)))
 
-  pub up_more : (s out r : ℕ) → out ≡ swept_up next k x s → r ≡ with_source next k out s → r ≡ swept_up next k x (s + 1)
-  unfolding swept_up
-  up_more s out r io ir = rw add-one (cc)
+    pub into_found : (e : ℕ) → e < length row → HoldsAt (λ t. x / 2 ^ (t % 64) % 2 ≡ 1) row e → AllWithin (λ t. x / 2 ^ (t % 64) % 2 ≡ 1 → ⊥) row 0 e
+        → get_or row e 0 < 64 → e ≡ event_into (target table k) k x s
+    unfolding event_into
+    into_found e l at none low =
+        let g : e < k = omega (arith, long) in
+        sym (least_is into k e g (rw (← cell e g) (sym (bit_one x (get_or row e 0) low (at 0)))) (not_into e (omega arith) none))
 
-  pub up_all : (s n out : ℕ) → s ≤ n → n ≤ s → out ≡ swept_up next k x s → out ≡ swept_up next k x n
-  up_all s n out le ge io = let q : s ≡ n = omega arith in cc
+-- what the functions name over them
+pub ruleset walk = (moved_end, moved_stop, moved_more, rest_less)
 
-  pub down_more : (i z r : ℕ) → 0 < i → swept_down next k x i ≡ z → r ≡ with_source next k x (i - 1) → swept_down next k r (i - 1) ≡ z
-  unfolding swept_down
-  down_more zero z r h is ir = absurd (omega arith)
-  down_more (suc i) z r h is ir = let e : suc i - 1 ≡ i = omega arith in rw (ir, e) is
+pub ruleset spreads = (spread_none, spread_stops, spread_more, only_fresh)
 
-  pub down_all : (i z : ℕ) → i ≤ 0 → swept_down next k x i ≡ z → x ≡ z
-  unfolding swept_down
-  down_all i z h is = let e : i ≡ 0 = omega arith in rw e at is
+pub ruleset starts = (only_all, within)
+
+pub ruleset rounds = (only_all, only_fresh, loop_done, loop_stops, loop_more)

@@ -9,14 +9,11 @@ pub fn contains(set: u64, s: StateNo) -> bool
     ensures { result ≡ has set s.0 }
 {
     let i = s.0;
-    if i < Rule::STATES {
-        (set >> i) % 2 == 1
-    } else {
-        false
-    }
+    i < Rule::STATES && (set >> i) % 2 == 1
 }
 
 // The set with s, or the set itself where s is past 63.
+#[tactic(auto, using(rule::proofs::SetLaws::or_including, rule::proofs::SetLaws::including_past))]
 pub fn insert(set: u64, s: StateNo) -> u64
     ensures { result ≡ including set s.0 }
 {

@@ -13,10 +13,10 @@ use Rattle.rule.specs.Refusals.{first_of, excess, moves, conditions}
 use Rattle.rule.specs.Given.{NoCell, NoPair, BadPair, Names, TooMuch, with_R, with_P, Forbidden, into_P, out_of_R}
 use Rattle.rule.specs.Range.{Shaped}
 use Rattle.rule.specs.WellDrawn.{WellDrawn}
-use Rattle.rule.specs.declared.Verdict.TheVariants.{Sound}
 use Rattle.rule.proofs.BoolLaws.{clash, so, not_so}
 use Rattle.rule.proofs.SetLaws.{has_none, names_iff, none_named}
 use Rattle.rule.proofs.GivenLaws.{conditions_sound, entries_sound, members_sound, excess_sound, moves_sound}
+use Rattle.std.specs.Prelude.{Ok}
 
 -- a number that cannot differ from 0 is 0
 zero_if : (x : ℕ) → ((x ≡ 0 → ⊥) → ⊥) → x ≡ 0
@@ -56,7 +56,7 @@ module _ (d : Drawing) (whole : length d.pairs ≡ count d) where
         response (record { one = one; no_P = no_P (inr e) })
     by_class (suc (suc (suc (suc (suc c))))) e a b o = absurd (omega arith)
 
-  pub of_class : Shaped d.shape → excess d ≡ Sound → moves d ≡ Sound → OfClass d class
+  pub of_class : Shaped d.shape → excess d ≡ Ok tt → moves d ≡ Ok tt → OfClass d class
   of_class shaped e m =
       by_class ((excess_sound d).0 e) ((moves_sound d whole).0 m) class refl shaped.classed.low shaped.classed.high shaped.ranged.one_pair
 
@@ -84,7 +84,7 @@ module _ (d : Drawing) (whole : length d.pairs ≡ count d) where
   nothing_forbidden (response r) e q a hq ha (into_P i h c o m) = ⊎_elim (λ k. omega arith) (λ k. omega arith) c
   nothing_forbidden (response r) e q a hq ha (out_of_R i h c m o) = ⊎_elim (λ k. omega arith) (λ k. omega arith) c
 
-  pub class_checks : OfClass d class → (excess d ≡ Sound) × (moves d ≡ Sound)
+  pub class_checks : OfClass d class → (excess d ≡ Ok tt) × (moves d ≡ Ok tt)
   class_checks k = ((excess_sound d).1 (nothing_over k refl), (moves_sound d whole).1 (nothing_forbidden k refl))
 
   -- in every class no move leads from outside P into P
@@ -101,7 +101,7 @@ module _ (d : Drawing) (whole : length d.pairs ≡ count d) where
       none_named (states d) x (not_so (names_past (states d) x) (λ p.
       let g = (names_iff (states d) x).0 p in n i h (bad (record { state = g.0; past = g.1; member = g.2 }))))
 
-  pub well_drawn : Shaped d.shape → first_of (conditions d) ≡ Sound → WellDrawn d
+  pub well_drawn : Shaped d.shape → first_of (conditions d) ≡ Ok tt → WellDrawn d
   well_drawn shaped p =
       let g = conditions_sound d p in
       let named = (members_sound d).0 g.1 in

@@ -24,21 +24,21 @@ use Rattle.rule.specs.Joint.{JointStop}
 use Rattle.rule.specs.declared.Pair.{Pair}
 use Rattle.rule.specs.declared.Refusal.{Refusal}
 use Rattle.rule.specs.declared.Refusal.TheVariants.{Entry, Member, Excess, Move, Stopping}
-use Rattle.rule.specs.declared.Verdict.{Verdict}
-use Rattle.rule.specs.declared.Verdict.TheVariants.{Sound, Refused}
 use Rattle.rule.proofs.BoolLaws.{clash, not_so, chosen, Says, itself, eq_says, eq_fails, and_says, or_says, not_says, ne_says, in_words}
 use Rattle.rule.proofs.SetLaws.{below_or, true_or, names_iff}
 use Rattle.rule.proofs.PairLaws.{Some, some_says}
 use Rattle.rule.proofs.StoppingLaws.{stops_says, joint_stops}
 use Rattle.rule.proofs.RefusalLaws.{not_both, sound_or, refuse_sound, refuse_refused, else_sound, below_sound_iff, below_refused_iff, cells_sound_iff}
 use Rattle.rule.proofs.RefusalLaws.{cells_refused_iff, first_sound}
+use Rattle.rule.specs.Verdict.{Verdict}
+use Rattle.std.specs.Prelude.{Ok, Err}
 
 -- a verdict that refuses exactly where there is the fault
 record Judges (v : Verdict) (Fault : Type 0) : Type 0 where
-  hits : (r : Refusal) → v ≡ Refused r → Fault
-  clears : v ≡ Sound → Fault → ⊥
+  hits : (r : Refusal) → v ≡ Err r → Fault
+  clears : v ≡ Ok tt → Fault → ⊥
 
-sound_of : {Fault : Type 0} (v : Verdict) → Judges v Fault → (Fault → ⊥) → v ≡ Sound
+sound_of : {Fault : Type 0} (v : Verdict) → Judges v Fault → (Fault → ⊥) → v ≡ Ok tt
 sound_of v j n = sound_or v (λ p. p) (λ r p. absurd (n (j.hits r p)))
 
 by_test : {Fault : Type 0} (b : Bool) (r : Refusal) → (b ≡ true) ↔ Fault → Judges (refuse_if b r) Fault
@@ -49,14 +49,14 @@ by_test b r i = record {
 
 -- over the pairs
 module _ (d : Drawing) (f : ℕ → Verdict) (Fault : ℕ → Type 0) (judges : (i : ℕ) → i < count d → Judges (f i) (Fault i)) where
-  pairs_sound : (first_below f (count d) ≡ Sound) ↔ NoPair d Fault
+  pairs_sound : (first_below f (count d) ≡ Ok tt) ↔ NoPair d Fault
   pairs_sound = (
     λ p i h. (judges i h).clears ((below_sound_iff f (count d)).0 p i h),
     λ n. (below_sound_iff f (count d)).1 (λ i h. sound_of (f i) (judges i h) (n i h)),
   )
 
   -- and the refusal is that of the lowest
-  pairs_refused : (r : Refusal) → (first_below f (count d) ≡ Refused r) ↔ ((i : ℕ) × (f i ≡ Refused r) × LowestPair d Fault i)
+  pairs_refused : (r : Refusal) → (first_below f (count d) ≡ Err r) ↔ ((i : ℕ) × (f i ≡ Err r) × LowestPair d Fault i)
   pairs_refused r = (
     λ p.
         let g = (below_refused_iff f (count d) r).0 p in
@@ -76,14 +76,14 @@ module _ (d : Drawing) (f : ℕ → Verdict) (Fault : ℕ → Type 0) (judges : 
 -- over the cells
 module _ (d : Drawing) (f : ℕ → ℕ → Verdict) (Fault : ℕ → ℕ → Type 0)
     (judges : (s e : ℕ) → s < states d → e < events d → Judges (f s e) (Fault s e)) where
-  all_cells_sound : (first_cell f (states d) (events d) ≡ Sound) ↔ NoCell d Fault
+  all_cells_sound : (first_cell f (states d) (events d) ≡ Ok tt) ↔ NoCell d Fault
   all_cells_sound = (
     λ p s e hs he. (judges s e hs he).clears ((cells_sound_iff f (events d) (states d)).0 p s e hs he),
     λ n. (cells_sound_iff f (events d) (states d)).1 (λ s e hs he. sound_of (f s e) (judges s e hs he) (n s e hs he)),
   )
 
   -- and the refusal is that of the first
-  cell_refused : (r : Refusal) → (first_cell f (states d) (events d) ≡ Refused r) ↔ ((s e : ℕ) × (f s e ≡ Refused r) × FirstCell d Fault s e)
+  cell_refused : (r : Refusal) → (first_cell f (states d) (events d) ≡ Err r) ↔ ((s e : ℕ) × (f s e ≡ Err r) × FirstCell d Fault s e)
   cell_refused r = (
     λ p.
         let g = (cells_refused_iff f (events d) (states d) r).0 p in
@@ -116,11 +116,11 @@ module _ (d : Drawing) (test : ℕ → Bool) (name : ℕ → Refusal) (Fault : �
   tested : (i : ℕ) → i < count d → Judges (refuse_if (test i) (name i)) (Fault i)
   tested i h = by_test (test i) (name i) (says i h)
 
-  pair_tests_sound : (first_below (λ i. refuse_if (test i) (name i)) (count d) ≡ Sound) ↔ NoPair d Fault
+  pair_tests_sound : (first_below (λ i. refuse_if (test i) (name i)) (count d) ≡ Ok tt) ↔ NoPair d Fault
   pair_tests_sound = pairs_sound d (λ i. refuse_if (test i) (name i)) Fault tested
 
   pair_tests_refused : (r : Refusal)
-      → (first_below (λ i. refuse_if (test i) (name i)) (count d) ≡ Refused r) ↔ ((i : ℕ) × (name i ≡ r) × LowestPair d Fault i)
+      → (first_below (λ i. refuse_if (test i) (name i)) (count d) ≡ Err r) ↔ ((i : ℕ) × (name i ≡ r) × LowestPair d Fault i)
   pair_tests_refused r =
       let g = pairs_refused d (λ i. refuse_if (test i) (name i)) Fault tested r in (
         λ p. let l = g.0 p in (l.0, ((refuse_refused (test l.0) (name l.0) r).0 l.1).1, l.2),
@@ -132,10 +132,10 @@ module _ (d : Drawing) (test : ℕ → ℕ → Bool) (name : ℕ → ℕ → Ref
   cell_tested : (s e : ℕ) → s < states d → e < events d → Judges (refuse_if (test s e) (name s e)) (Fault s e)
   cell_tested s e hs he = by_test (test s e) (name s e) (says s e hs he)
 
-  cell_tests_sound : (first_cell (λ s e. refuse_if (test s e) (name s e)) (states d) (events d) ≡ Sound) ↔ NoCell d Fault
+  cell_tests_sound : (first_cell (λ s e. refuse_if (test s e) (name s e)) (states d) (events d) ≡ Ok tt) ↔ NoCell d Fault
   cell_tests_sound = all_cells_sound d (λ s e. refuse_if (test s e) (name s e)) Fault cell_tested
 
-  cell_tests_refused : (r : Refusal) → (first_cell (λ s e. refuse_if (test s e) (name s e)) (states d) (events d) ≡ Refused r)
+  cell_tests_refused : (r : Refusal) → (first_cell (λ s e. refuse_if (test s e) (name s e)) (states d) (events d) ≡ Err r)
       ↔ ((s e : ℕ) × (name s e ≡ r) × FirstCell d Fault s e)
   cell_tests_refused r =
       let g = cell_refused d (λ s e. refuse_if (test s e) (name s e)) Fault cell_tested r in (
@@ -159,17 +159,17 @@ entry_says d s e = (leb-true (states d) (next d s e), le-leb (states d) (next d 
 abbrev entry_name : ℕ → ℕ → Refusal
 entry_name s e = Entry (state_no s) (event_no e)
 
-no_bad_entry : (d : Drawing) → (entries d ≡ Sound) ↔ NoCell d (BadEntry d)
+no_bad_entry : (d : Drawing) → (entries d ≡ Ok tt) ↔ NoCell d (BadEntry d)
 unfolding entries
 no_bad_entry d = cell_tests_sound d (entry_test d) entry_name (BadEntry d) (λ s e hs he. entry_says d s e)
 
-pub entries_sound : (d : Drawing) → (entries d ≡ Sound) ↔ Closed d.table (states d) (events d)
+pub entries_sound : (d : Drawing) → (entries d ≡ Ok tt) ↔ Closed d.table (states d) (events d)
 entries_sound d = (
   λ p s e hs he. below_or (next d s e) (states d) (λ h. h) (λ h. absurd ((no_bad_entry d).0 p s e hs he h)),
   λ c. (no_bad_entry d).1 (λ s e hs he b. omega (arith, c s e hs he)),
 )
 
-pub entries_refused : (d : Drawing) (x : Refusal) → (entries d ≡ Refused x) ↔ ((s e : ℕ) × (entry_name s e ≡ x) × FirstCell d (BadEntry d) s e)
+pub entries_refused : (d : Drawing) (x : Refusal) → (entries d ≡ Err x) ↔ ((s e : ℕ) × (entry_name s e ≡ x) × FirstCell d (BadEntry d) s e)
 unfolding entries
 entries_refused d = cell_tests_refused d (entry_test d) entry_name (BadEntry d) (λ s e hs he. entry_says d s e)
 
@@ -188,15 +188,15 @@ module _ (d : Drawing) (i : ℕ) where
   abbrev past_p : Bool
   past_p = names_past (states d) (pair_at d i).p
 
-  member_by : (x : Refusal) → member_at d i ≡ Refused x → (side : ℕ) × (Member i side ≡ x) × BadSide d i side
+  member_by : (x : Refusal) → member_at d i ≡ Err x → (side : ℕ) × (Member i side ≡ x) × BadSide d i side
   member_by x p =
       true_or past_r
-      (λ a. let q : Refused (Member i 0) ≡ Refused x = rw a at p in (0, cc, by_R ((names_says (states d) (pair_at d i).r).0 a)))
+      (λ a. let q : Err (Member i 0) ≡ Err x = rw a at p in (0, cc, by_R ((names_says (states d) (pair_at d i).r).0 a)))
       (λ a.
       let t = (refuse_refused past_p (Member i 1) x).0 (rw a at p) in
       (1, t.1, only_P (λ n. clash ((names_says (states d) (pair_at d i).r).1 n) a) ((names_says (states d) (pair_at d i).p).0 t.0)))
 
-  of_side : {side : ℕ} → BadSide d i side → member_at d i ≡ Refused (Member i side)
+  of_side : {side : ℕ} → BadSide d i side → member_at d i ≡ Err (Member i side)
   of_side (by_R n) = rw ((names_says (states d) (pair_at d i).r).1 n)
   of_side (only_P o n) =
       rw (not_so past_r (λ a. o ((names_says (states d) (pair_at d i).r).0 a)), (names_says (states d) (pair_at d i).p).1 n)
@@ -214,16 +214,16 @@ module _ (d : Drawing) (i : ℕ) where
         f;
   }
 
-pub members_sound : (d : Drawing) → (members d ≡ Sound) ↔ NoPair d (BadPair d)
+pub members_sound : (d : Drawing) → (members d ≡ Ok tt) ↔ NoPair d (BadPair d)
 unfolding members
 members_sound d = pairs_sound d (member_at d) (BadPair d) (λ i h. member_judges d i)
 
-pub members_refused : (d : Drawing) (x : Refusal) → (members d ≡ Refused x) ↔ ((i side : ℕ) × (Member i side ≡ x) × BadMember d i side)
+pub members_refused : (d : Drawing) (x : Refusal) → (members d ≡ Err x) ↔ ((i side : ℕ) × (Member i side ≡ x) × BadMember d i side)
 unfolding members
 members_refused d x =
     let g = pairs_refused d (member_at d) (BadPair d) (λ i h. member_judges d i) x in (
       λ p. let l = g.0 p in let b = member_by d l.0 x l.1 in (l.0, b.0, b.1, record { lowest = l.2; by_side = b.2 }),
-      λ b. g.1 (b.0, of_side d b.0 b.3.by_side ∙ ap Refused b.2, b.3.lowest),
+      λ b. g.1 (b.0, of_side d b.0 b.3.by_side ∙ ap Err b.2, b.3.lowest),
     )
 
 -- 7
@@ -242,14 +242,14 @@ exceeds_says d =
     back (with_R c n) = inl (c, n)
     back (with_P c n) = inr (c, n)
 
-pub excess_sound : (d : Drawing) → (excess d ≡ Sound) ↔ (TooMuch d → ⊥)
+pub excess_sound : (d : Drawing) → (excess d ≡ Ok tt) ↔ (TooMuch d → ⊥)
 unfolding excess
 excess_sound d = (
   λ p t. clash ((exceeds_says d).1 t) ((refuse_sound (exceeds d) Excess).0 p),
   λ n. (refuse_sound (exceeds d) Excess).1 (not_so (exceeds d) (λ p. n ((exceeds_says d).0 p))),
 )
 
-pub excess_refused : (d : Drawing) (x : Refusal) → (excess d ≡ Refused x) ↔ ((Excess ≡ x) × TooMuch d)
+pub excess_refused : (d : Drawing) (x : Refusal) → (excess d ≡ Err x) ↔ ((Excess ≡ x) × TooMuch d)
 unfolding excess
 excess_refused d x = (
   λ p. let g = (refuse_refused (exceeds d) Excess x).0 p in (g.1, (exceeds_says d).0 g.0),
@@ -304,13 +304,13 @@ module _ (d : Drawing) (whole : length d.pairs ≡ count d) where
       back (into_P i h c a b) = (i, omega arith, into c a b)
       back (out_of_R i h c a b) = (i, omega arith, out c a b)
 
-  pub moves_sound : (moves d ≡ Sound) ↔ NoCell d (Forbidden d)
+  pub moves_sound : (moves d ≡ Ok tt) ↔ NoCell d (Forbidden d)
   unfolding moves
   moves_sound =
       cell_tests_sound d (move_test d) move_name (Forbidden d)
       (λ s e hs he. forbidden_says s e)
 
-  pub moves_refused : (x : Refusal) → (moves d ≡ Refused x) ↔ ((s e : ℕ) × (move_name s e ≡ x) × FirstCell d (Forbidden d) s e)
+  pub moves_refused : (x : Refusal) → (moves d ≡ Err x) ↔ ((s e : ℕ) × (move_name s e ≡ x) × FirstCell d (Forbidden d) s e)
   unfolding moves
   moves_refused =
       cell_tests_refused d (move_test d) move_name (Forbidden d)
@@ -328,13 +328,13 @@ module _ (d : Drawing) (closed : Closed d.table (states d) (events d)) (small : 
       (λ g. record { outside = g.0; reaches_none = g.1 })
       (λ g. (g.outside, g.reaches_none))
 
-  alone_sound : (stopped_pairs d ≡ Sound) ↔ NoPair d (StopsBy d (initial d))
+  alone_sound : (stopped_pairs d ≡ Ok tt) ↔ NoPair d (StopsBy d (initial d))
   unfolding stopped_pairs
   alone_sound =
       pair_tests_sound d (stop_test d) Stopping (StopsBy d (initial d))
       (λ i h. stop_says i)
 
-  alone_refused : (x : Refusal) → (stopped_pairs d ≡ Refused x) ↔ ((i : ℕ) × (Stopping i ≡ x) × LowestPair d (StopsBy d (initial d)) i)
+  alone_refused : (x : Refusal) → (stopped_pairs d ≡ Err x) ↔ ((i : ℕ) × (Stopping i ≡ x) × LowestPair d (StopsBy d (initial d)) i)
   unfolding stopped_pairs
   alone_refused =
       pair_tests_refused d (stop_test d) Stopping (StopsBy d (initial d))
@@ -366,22 +366,22 @@ module _ (d : Drawing) (closed : Closed d.table (states d) (events d)) (small : 
         from (jointly m s) = s
 
     -- the pair that is named
-    named_pair : (x : Refusal) → (or_else (stopped_pairs d) (Refused (Stopping (count d))) ≡ Refused x)
+    named_pair : (x : Refusal) → (or_else (stopped_pairs d) (Err (Stopping (count d))) ≡ Err x)
         ↔ ((i : ℕ) × (Stopping i ≡ x) × Named d (StopsBy d (initial d)) i)
     named_pair x = (
       λ p. sound_or (stopped_pairs d)
-          (λ s. (count d, let q : Refused (Stopping (count d)) ≡ Refused x = rw s at p in cc, no_single (alone_sound.0 s)))
+          (λ s. (count d, let q : Err (Stopping (count d)) ≡ Err x = rw s at p in cc, no_single (alone_sound.0 s)))
           (λ r q.
           let l = (alone_refused x).0 (q ∙ rw q at p) in
           (l.0, l.1, lowest l.2)),
       λ g. rw (← g.1) (by g.2),
     )
       where
-        by : {i : ℕ} → Named d (StopsBy d (initial d)) i → or_else (stopped_pairs d) (Refused (Stopping (count d))) ≡ Refused (Stopping i)
+        by : {i : ℕ} → Named d (StopsBy d (initial d)) i → or_else (stopped_pairs d) (Err (Stopping (count d))) ≡ Err (Stopping i)
         by (lowest {i = i} l) = rw ((alone_refused (Stopping i)).1 (i, refl, l))
         by (no_single none) = rw (alone_sound.1 none)
 
-    jointly_sound : (stopped_joint d ≡ Sound) ↔ (Stops d (initial d) → ⊥)
+    jointly_sound : (stopped_joint d ≡ Ok tt) ↔ (Stops d (initial d) → ⊥)
     unfolding stopped_joint
     jointly_sound = (
       λ p s. let t = joint_says.1 s in
@@ -391,7 +391,7 @@ module _ (d : Drawing) (closed : Closed d.table (states d) (events d)) (small : 
       λ n. rw (not_so (stopping_joint d (initial d)) (λ p. n (joint_says.0 p))),
     )
 
-    jointly_refused : (x : Refusal) → (stopped_joint d ≡ Refused x) ↔ ((i : ℕ) × (Stopping i ≡ x) × StoppedBy d i)
+    jointly_refused : (x : Refusal) → (stopped_joint d ≡ Err x) ↔ ((i : ℕ) × (Stopping i ≡ x) × StoppedBy d i)
     unfolding stopped_joint
     jointly_refused x = (
       λ p. true_or (stopping_joint d (initial d))
@@ -401,20 +401,20 @@ module _ (d : Drawing) (closed : Closed d.table (states d) (events d)) (small : 
     )
 
   module _ (whole : length d.pairs ≡ count d) where
-    pub stopped_sound : (stopped d ≡ Sound) ↔ (Stops d (initial d) → ⊥)
+    pub stopped_sound : (stopped d ≡ Ok tt) ↔ (Stops d (initial d) → ⊥)
     unfolding stopped
     stopped_sound =
-        chosen (λ v. (v ≡ Sound) ↔ (Stops d (initial d) → ⊥)) (joint d)
+        chosen (λ v. (v ≡ Ok tt) ↔ (Stops d (initial d) → ⊥)) (joint d)
         (λ t. jointly_sound ((eq_says d.shape.mode 1).0 t) whole)
         (λ o. let n = (eq_fails d.shape.mode 1).0 o in (
           λ p s. some_pair n s (alone_sound.0 p),
           λ none. alone_sound.1 (λ i h s. none (by_pair n i h s)),
         ))
 
-    pub stopped_refused : (x : Refusal) → (stopped d ≡ Refused x) ↔ ((i : ℕ) × (Stopping i ≡ x) × StoppedBy d i)
+    pub stopped_refused : (x : Refusal) → (stopped d ≡ Err x) ↔ ((i : ℕ) × (Stopping i ≡ x) × StoppedBy d i)
     unfolding stopped
     stopped_refused x =
-        chosen (λ v. (v ≡ Refused x) ↔ ((i : ℕ) × (Stopping i ≡ x) × StoppedBy d i)) (joint d)
+        chosen (λ v. (v ≡ Err x) ↔ ((i : ℕ) × (Stopping i ≡ x) × StoppedBy d i)) (joint d)
         (λ t. jointly_refused ((eq_says d.shape.mode 1).0 t) whole x)
         (λ o. let n = (eq_fails d.shape.mode 1).0 o in (
           λ p. let l = (alone_refused x).0 p in (l.0, l.1, (pairs_refuse n l.0).1 l.2),
@@ -422,8 +422,8 @@ module _ (d : Drawing) (closed : Closed d.table (states d) (events d)) (small : 
         ))
 
 -- each condition by itself is sound
-pub conditions_sound : (d : Drawing) → first_of (conditions d) ≡ Sound
-    → (entries d ≡ Sound) × (members d ≡ Sound) × (excess d ≡ Sound) × (moves d ≡ Sound) × (stopped d ≡ Sound)
+pub conditions_sound : (d : Drawing) → first_of (conditions d) ≡ Ok tt
+    → (entries d ≡ Ok tt) × (members d ≡ Ok tt) × (excess d ≡ Ok tt) × (moves d ≡ Ok tt) × (stopped d ≡ Ok tt)
 conditions_sound d p0 =
     let p1 = (first_sound (entries d) _).0 p0 in
     let p2 = (first_sound (members d) _).0 p1.1 in

@@ -17,7 +17,6 @@ use Rattle.rule.specs.WellDrawn.{WellDrawn}
 use Rattle.rule.specs.declared.Rule.{Rule}
 use Rattle.rule.specs.declared.Operation.{Operation}
 use Rattle.rule.specs.declared.Operation.TheVariants.{Halt, Store, Dump}
-use Rattle.rule.specs.declared.Verdict.TheVariants.{Sound}
 use Rattle.rule.proofs.BoolLaws.{Says, eq_says, eq_fails, in_words}
 use Rattle.rule.proofs.RefusalLaws.{first_sound, first_none}
 use Rattle.rule.proofs.GivenLaws.{stopped_sound, conditions_sound}
@@ -25,6 +24,7 @@ use Rattle.rule.proofs.ClassLaws.{well_drawn}
 use Rattle.rule.proofs.StoppingLaws.{joint_stops}
 use Rattle.rule.proofs.PairwiseLaws.{stop_says}
 use Rattle.rule.proofs.OperationLaws.{by_mode, operation_halt, laws, sharp}
+use Rattle.std.specs.Prelude.{Ok}
 
 -- two operations that dump together and halt together are equal
 same_operation : (a b : Operation) → (a ≡ Dump) ↔ (b ≡ Dump) → (a ≡ Halt) ↔ (b ≡ Halt) → a ≡ b
@@ -86,7 +86,7 @@ stops_in d well q h =
     together j (jointly m s) = s
 
 -- 9 is given where a move into the initial state would halt
-halts_at_start : (d : Drawing) (well : WellDrawn d) → (stopped d ≡ Sound) ↔ (operation_at d (initial d) ≡ Halt → ⊥)
+halts_at_start : (d : Drawing) (well : WellDrawn d) → (stopped d ≡ Ok tt) ↔ (operation_at d (initial d) ≡ Halt → ⊥)
 halts_at_start d well =
     let start = well.initial_in in
     let sound = stopped_sound d well.closed well.few_states start well.whole in
@@ -95,12 +95,12 @@ halts_at_start d well =
     (λ p o. sound.0 p (stops.0 (halt.0 o)), λ n. sound.1 (λ s. n (halt.1 (stops.1 s))))
 
 -- a rule that passes the checks passes them in the other mode too where that does not halt at the start
-module _ (d : Drawing) (whole : length d.pairs ≡ count d) (shaped : Shaped d.shape) (sound : first_of (conditions d) ≡ Sound) where
+module _ (d : Drawing) (whole : length d.pairs ≡ count d) (shaped : Shaped d.shape) (sound : first_of (conditions d) ≡ Ok tt) where
   abbrev W : WellDrawn d
   W = well_drawn d whole shaped sound
 
   passes_in : (mode : ℕ) → (operation_at (in_mode mode d) (initial d) ≡ Halt → operation_at d (initial d) ≡ Halt)
-      → first_of (conditions (in_mode mode d)) ≡ Sound
+      → first_of (conditions (in_mode mode d)) ≡ Ok tt
   unfolding entries members exceeds excess moves
   passes_in mode halts =
       let g = conditions_sound d sound in
@@ -108,10 +108,10 @@ module _ (d : Drawing) (whole : length d.pairs ≡ count d) (shaped : Shaped d.s
       (first_sound _ _).1 (g.0, (first_sound _ _).1 (g.1, (first_sound _ _).1 (g.2, (first_sound _ _).1 (g.3, (first_sound _ _).1 (nine, first_none)))))
 
   -- so with one pair, and with any number from joint mode to mode 0
-  pub one_pair_passes : count d ≡ 1 → (mode : ℕ) → first_of (conditions (in_mode mode d)) ≡ Sound
+  pub one_pair_passes : count d ≡ 1 → (mode : ℕ) → first_of (conditions (in_mode mode d)) ≡ Ok tt
   one_pair_passes one mode = passes_in mode (λ h. sym (one_pair_same d W one mode (initial d) W.initial_in) ∙ h)
 
-  pub joint_passes : d.shape.mode ≡ 1 → first_of (conditions (in_mode 0 d)) ≡ Sound
+  pub joint_passes : d.shape.mode ≡ 1 → first_of (conditions (in_mode 0 d)) ≡ Ok tt
   joint_passes j =
       passes_in 0 (λ h. ap (λ (x : Drawing). operation_at x (initial d)) (sym (in_its_mode d 1 j)) ∙ halts_jointly d W (initial d) W.initial_in h)
 

@@ -15,12 +15,12 @@ use Rattle.rule.specs.Given.{NoPair, StopsBy, Stops, by_pair, jointly, BothEmpty
 use Rattle.rule.specs.NoTen.{empties, NoTen}
 use Rattle.rule.specs.declared.Refusal.{Refusal}
 use Rattle.rule.specs.declared.Refusal.TheVariants.{Stopping}
-use Rattle.rule.specs.declared.Verdict.TheVariants.{Sound, Refused}
 use Rattle.rule.proofs.BoolLaws.{clash, not_so, chosen, eq_says, eq_fails, and_says, not_says}
 use Rattle.rule.proofs.SetLaws.{has_none, true_or, meets_iff}
 use Rattle.rule.proofs.StoppingLaws.{all_accept, good_at}
 use Rattle.rule.proofs.RefusalLaws.{not_both, sound_or, refuse_sound, else_sound, below_sound_iff, append_more, append_hit, first_one}
 use Rattle.rule.proofs.GivenLaws.{conditions_sound}
+use Rattle.std.specs.Prelude.{Ok, Err}
 
 -- a set that is empty has no member, and meets no set
 none_in : {x : ℕ} (t : ℕ) → x ≡ 0 → has x t ≡ false
@@ -57,15 +57,15 @@ module _ (d : Drawing) (i : ℕ) (empty : BothEmpty d i) where
           none_accepted w.0 ((all_accept d whole w.0).0 (sym (good_at d w.0 w.1) ∙ w.3))))
 
       -- so it does not pass
-      not_passed : stopped d ≡ Sound → ⊥
+      not_passed : stopped d ≡ Ok tt → ⊥
       unfolding stopped stopped_pairs stopped_joint
       not_passed =
-          chosen (λ v. v ≡ Sound → ⊥) (joint d)
-          (λ j. rw (joint_test (initial d)) (λ p. not_both ((else_sound (stopped_pairs d) (Refused (Stopping (count d)))).0 p).1 refl))
+          chosen (λ v. v ≡ Ok tt → ⊥) (joint d)
+          (λ j. rw (joint_test (initial d)) (λ p. not_both ((else_sound (stopped_pairs d) (Err (Stopping (count d)))).0 p).1 refl))
           (λ o p. clash (pair_test (reach_of d (initial d)) (initial d)) ((refuse_sound _ (Stopping i)).0 ((below_sound_iff (stop_at d) (count d)).0 p i used)))
 
 -- condition 10 refuses nothing where no used pair has both sets empty
-none_refused : (d : Drawing) (ten : ℕ → Refusal) → NoPair d (BothEmpty d) → empties ten d ≡ Sound
+none_refused : (d : Drawing) (ten : ℕ → Refusal) → NoPair d (BothEmpty d) → empties ten d ≡ Ok tt
 unfolding empties is_empty
 none_refused d ten none =
     (below_sound_iff _ (count d)).1 (λ i h. (refuse_sound _ (ten i)).1 (not_so (is_empty (pair_at d i).r && is_empty (pair_at d i).p) (λ t.
@@ -73,7 +73,7 @@ none_refused d ten none =
     none i h (record { no_R = e.0; no_P = e.1 }))))
 
 module _ (d : Drawing) (whole : length d.pairs ≡ count d) where
-  passed : stopped d ≡ Sound → NoPair d (BothEmpty d)
+  passed : stopped d ≡ Ok tt → NoPair d (BothEmpty d)
   passed p i used empty = not_passed d i empty used whole p
 
   pub no_ten : NoTen d

@@ -16,10 +16,10 @@ use Rattle.rule.specs.Refusals.{told_of, among, Numbered, refuse_if, or_else, fi
 use Rattle.rule.specs.Refusals.{moves, stopped_pairs, stopped_joint, stopped, conditions, conditions_order}
 use Rattle.rule.specs.declared.Refusal.{Refusal}
 use Rattle.rule.specs.declared.Refusal.TheVariants.{Entry, Member, Excess, Move, Stopping}
-use Rattle.rule.specs.declared.Verdict.{Verdict}
-use Rattle.rule.specs.declared.Verdict.TheVariants.{Sound, Refused}
 use Rattle.rule.proofs.BoolLaws.{Says, clash, chosen, eq_says, or_says, itself}
 use Rattle.rule.proofs.RefusalLaws.{not_both, refuse_refused}
+use Rattle.rule.specs.Verdict.{Verdict}
+use Rattle.std.specs.Prelude.{Ok, Err}
 
 -- of the numbers in a list, and in two in a row
 pub among_says : (n m : ℕ) (l : List ℕ) → Says (among n (m ∷ l)) ((n ≡ m) ⊎ (among n l ≡ true))
@@ -45,9 +45,9 @@ among_last n (k ∷ l) = (among_says n k (l ++ (n ∷ []))).1 (inr (among_last n
 
 -- whatever the verdict refuses has one of these numbers
 abbrev pub Gives : List ℕ → Verdict → Type 0
-Gives numbers v = (r : Refusal) → v ≡ Refused r → Numbered numbers r
+Gives numbers v = (r : Refusal) → v ≡ Err r → Numbered numbers r
 
-pub sound_gives : {l : List ℕ} → Gives l Sound
+pub sound_gives : {l : List ℕ} → Gives l (Ok tt)
 sound_gives r p = not_both refl p
 
 pub refuse_gives : {l : List ℕ} (b : Bool) (r : Refusal) → Numbered l r → Gives l (refuse_if b r)
@@ -58,8 +58,8 @@ pub test_gives : {n : ℕ} (b : Bool) (r : Refusal) → (told_of r).number ≡ n
 test_gives {n} b r e = refuse_gives b r (record { one_of = rw (eq-eqb (told_of r).number n e) })
 
 pub else_gives : {l : List ℕ} (v w : Verdict) → Gives l v → Gives l w → Gives l (or_else v w)
-else_gives Sound w g h = h
-else_gives (Refused r) w g h = g
+else_gives (Ok _) w g h = h
+else_gives (Err r) w g h = g
 
 pub below_gives : {l : List ℕ} (f : ℕ → Verdict) (n : ℕ) → ((i : ℕ) → Gives l (f i)) → Gives l (first_below f n)
 unfolding first_below

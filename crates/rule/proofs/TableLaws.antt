@@ -6,15 +6,15 @@ use mathlib.Core.Bool.{Bool, true, false}
 use mathlib.Core.List.{List, [], ◌∷◌, ◌++◌}
 use lib.Dec.{eqb}
 use mathlib.Core.Logic.Iff
-use mathlib.Core.Logic.{◌⊎◌, inr, ⊎_elim, ◌↔◌}
+use mathlib.Core.Logic.{inr, ⊎_elim, ◌↔◌}
 use Rattle.rule.specs.Refusals.{told_of, among, refuse_if, or_else, verdict_told}
 use Rattle.rule.specs.Given.{Table, NoneAt, NoRow, Given, here, later, After, row, last, done, refused, Ends}
 use Rattle.rule.specs.declared.Refusal.{Refusal}
-use Rattle.rule.specs.declared.Verdict.{Verdict}
-use Rattle.rule.specs.declared.Verdict.TheVariants.{Sound, Refused}
 use Rattle.rule.proofs.BoolLaws.{Says, eq_says, clash}
 use Rattle.rule.proofs.NumberLaws.{among_says, first_among, among_either, among_ahead, among_last, Gives}
 use Rattle.rule.proofs.RefusalLaws.{not_both, sound_or, refuse_refused}
+use Rattle.rule.specs.Verdict.{Verdict}
+use Rattle.std.specs.Prelude.{Ok, Err}
 
 -- no row with one of these numbers holds
 abbrev pub NoneOf : Table → List ℕ → Type 0
@@ -22,12 +22,12 @@ NoneOf T l = (n : ℕ) → among n l ≡ true → NoneAt T n
 
 -- a verdict decides the row of a number
 abbrev pub Decides : Table → ℕ → Verdict → Type 0
-Decides T n v = (x : Refusal) → (v ≡ Refused x) ↔ T n x
+Decides T n v = (x : Refusal) → (v ≡ Err x) ↔ T n x
 
 -- of the rows with these numbers, in this order, the verdict gives the first that holds
 pub record Answers (T : Table) (order : List ℕ) (v : Verdict) : Type 0 where
-  pub gives : (x : Refusal) → (v ≡ Refused x) ↔ Given T x order
-  pub none : v ≡ Sound → NoneOf T order
+  pub gives : (x : Refusal) → (v ≡ Err x) ↔ Given T x order
+  pub none : v ≡ Ok tt → NoneOf T order
 
 -- the rows of a table have the numbers of their refusals, and these stand in the order
 pub record Listed (order : List ℕ) (n : ℕ) (x : Refusal) : Type 0 where
@@ -86,41 +86,41 @@ module _ {T : Table} where
   within_first m (later z g) (later z' h) = later z (within_first m g h)
 
   -- no rows are left
-  pub end : Answers T [] Sound
+  pub end : Answers T [] (Ok tt)
   end = record { gives = λ x. (not_both refl, elim [ ]); none = λ p n q. clash q refl }
 
   -- one row
   one : {n : ℕ} {v : Verdict} → Decides T n v → Answers T (n ∷ []) v
   one {n} {v} d = record { gives = λ x. (λ p. here ((d x).0 p), alone x); none = none }
     where
-      alone : (x : Refusal) → Given T x (n ∷ []) → v ≡ Refused x
+      alone : (x : Refusal) → Given T x (n ∷ []) → v ≡ Err x
       alone x (here r) = (d x).1 r
       alone x (later _ g) = elim g [ ]
 
-      none : v ≡ Sound → NoneOf T (n ∷ [])
+      none : v ≡ Ok tt → NoneOf T (n ∷ [])
       none p m a x r = let e = ⊎_elim (λ e. e) (λ q. clash q refl) ((among_says m n []).0 a) in not_both p ((d x).1 (rw e at r))
 
   -- rows, and then the rows after them
-  pub append : {l m : List ℕ} {w : Verdict} (v : Verdict) → Answers T l v → (v ≡ Sound → Answers T m w) → Answers T (l ++ m) (or_else v w)
-  append {l} {m} Sound a rest =
+  pub append : {l m : List ℕ} {w : Verdict} (v : Verdict) → Answers T l v → (v ≡ Ok tt → Answers T m w) → Answers T (l ++ m) (or_else v w)
+  append {l} {m} (Ok tt) a rest =
       let b = rest refl in
       record {
         gives = λ x. Iff.trans (b.gives x) (behind l m (a.none refl));
         none = λ p n q. ⊎_elim (a.none refl n) (b.none p n) (among_either n l m q);
       }
-  append {l} {m} (Refused z) a rest =
+  append {l} {m} (Err z) a rest =
       record {
         gives = λ x. (λ p. ahead m ((a.gives x).0 p), λ g. (a.gives x).1 (within_first m ((a.gives z).0 refl) g));
         none = λ p. not_both p refl;
       }
 
   -- one row, and then the rows after it
-  pub then : {n : ℕ} {l : List ℕ} {w : Verdict} (v : Verdict) → Decides T n v → (v ≡ Sound → Answers T l w) → Answers T (n ∷ l) (or_else v w)
+  pub then : {n : ℕ} {l : List ℕ} {w : Verdict} (v : Verdict) → Decides T n v → (v ≡ Ok tt → Answers T l w) → Answers T (n ∷ l) (or_else v w)
   then v d rest = append v (one d) rest
 
   -- of all rows
 
-  pub sound_exactly : {order : List ℕ} {v : Verdict} → Within order T → Answers T order v → (v ≡ Sound) ↔ NoRow T
+  pub sound_exactly : {order : List ℕ} {v : Verdict} → Within order T → Answers T order v → (v ≡ Ok tt) ↔ NoRow T
   sound_exactly {v = v} within a = (
     λ p n x r. a.none p n (within n x r).listed x r,
     λ z. sound_or v (λ p. p) (λ x p. let r = row_of ((a.gives x).0 p) in absurd (z r.0 x r.1)),
@@ -168,7 +168,7 @@ module _ {T : Table} (order : List ℕ) (within : Within order T) (n : ℕ) (x :
   after_within is m y (last h) = record { number = is; listed = among_last n order }
 
 -- how a call ends that answers a verdict
-pub verdict_ends : {T : Table} {order : List ℕ} {Rest : Type 0} (v : Verdict) → (v ≡ Sound → NoRow T) → ((x : Refusal) → v ≡ Refused x → Given T x order × Rest)
+pub verdict_ends : {T : Table} {order : List ℕ} {Rest : Type 0} (v : Verdict) → (v ≡ Ok tt → NoRow T) → ((x : Refusal) → v ≡ Err x → Given T x order × Rest)
     → Ends T order (verdict_told v) Rest
-verdict_ends Sound none given = record { tells = done (none refl); rest = λ n. absurd (n refl) }
-verdict_ends (Refused x) none given = let g = given x refl in record { tells = refused g.0; rest = λ n. g.1 }
+verdict_ends (Ok _) none given = record { tells = done (none refl); rest = λ n. absurd (n refl) }
+verdict_ends (Err x) none given = let g = given x refl in record { tells = refused g.0; rest = λ n. g.1 }

@@ -7,6 +7,7 @@ use Rattle.rule.specs.declared.EventNo.{EventNo}
 use Rattle.rule.specs.declared.Pair.{Pair}
 use Rattle.rule.specs.declared.Shape.{Shape}
 use Rattle.rule.specs.declared.Rule.{Rule}
+use Rattle.rule.specs.declared.Body.{Body}
 
 -- a state's number and an event's code as the types that keep them apart
 abbrev pub state_no : ℕ → StateNo
@@ -83,6 +84,10 @@ drawn r =
 abbrev pub body : Shape → List ℕ → List Pair → Drawing
 body s table pairs = record { shape = s; note = []; table = table; pairs = take s.pairs pairs }
 
+-- the drawing of a rule that is lent
+abbrev pub drawing_of : Body → Drawing
+drawing_of b = body b.shape b.table.now b.pairs.now
+
 -- two rules are the same when their drawings are equal
 abbrev pub Same : Rule → Rule → Type 0
 Same a b = drawn a ≡ drawn b
@@ -100,15 +105,4 @@ rule_of d =
       note = padded 1024 0 d.note;
       table = padded 2048 0 d.table;
       pairs = padded 8 no_pair d.pairs;
-    }
-
--- the rule with 0 in every place
-unfoldable pub zero_rule : Rule
-zero_rule =
-    record {
-      shape = record { class = 0; states = 0; events = 0; pairs = 0; initial = state_no 0; mode = 0 };
-      length = 0;
-      note = replicate 1024 0;
-      table = replicate 2048 0;
-      pairs = replicate 8 no_pair;
     }

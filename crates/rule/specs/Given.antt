@@ -1,21 +1,20 @@
 -- What each refusal from 5 to 9 says of the drawing, in plain words, with the places; and "given exactly when" of the paper's table.
 -- Assumes nothing.
-use Rattle.std.specs.Prelude.{ℕ, ◌≤◌, ◌<◌, ◌≡◌, ◌⊎◌, List, ◌∷◌}
+use Rattle.std.specs.Prelude.{ℕ, ◌≤◌, ◌<◌, ◌≡◌, ◌⊎◌, List, ◌∷◌, Ok, Err}
 use Rattle.rule.specs.Drawing.{Drawing, states, events, count, initial, next, pair_at}
 use Rattle.rule.specs.Published.{In, Out, ReachesNone}
 use Rattle.rule.specs.Joint.{JointStop}
 use Rattle.rule.specs.Refusals.{tell, told_of}
 use Rattle.rule.specs.declared.Told.{Told}
 use Rattle.rule.specs.declared.Refusal.{Refusal}
-use Rattle.rule.specs.declared.Verdict.{Verdict}
-use Rattle.rule.specs.declared.Verdict.TheVariants.{Sound, Refused}
+use Rattle.rule.specs.Verdict.{Verdict}
 
 -- f refuses with r at some number below n, and nowhere earlier
 pub record FirstBelow (f : ℕ → Verdict) (n : ℕ) (r : Refusal) : Type 0 where
   pub at : ℕ
   pub below : at < n
-  pub refused : f at ≡ Refused r
-  pub earlier : (j : ℕ) → j < at → f j ≡ Sound
+  pub refused : f at ≡ Err r
+  pub earlier : (j : ℕ) → j < at → f j ≡ Ok tt
 
 -- f refuses with r at some cell of n states and k events, and nowhere earlier in row order
 pub record FirstRefused (f : ℕ → ℕ → Verdict) (n k : ℕ) (r : Refusal) : Type 0 where
@@ -23,9 +22,9 @@ pub record FirstRefused (f : ℕ → ℕ → Verdict) (n k : ℕ) (r : Refusal) 
   pub event : ℕ
   pub state_in : state < n
   pub event_in : event < k
-  pub refused : f state event ≡ Refused r
-  pub rows_before : (s e : ℕ) → s < state → e < k → f s e ≡ Sound
-  pub cells_before : (e : ℕ) → e < event → f state e ≡ Sound
+  pub refused : f state event ≡ Err r
+  pub rows_before : (s e : ℕ) → s < state → e < k → f s e ≡ Ok tt
+  pub cells_before : (e : ℕ) → e < event → f state e ≡ Ok tt
 
 -- (s, e) is the first cell in row order with the fault
 pub record FirstCell (d : Drawing) (Fault : ℕ → ℕ → Type 0) (s e : ℕ) : Type 0 where

@@ -9,6 +9,7 @@ pub mod Acceptance
 pub mod Operations
 pub mod Stopping
 pub mod Classes
+pub mod Verdict
 pub mod Refusals
 pub mod Given
 pub mod NoTen

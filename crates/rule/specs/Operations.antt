@@ -1,11 +1,12 @@
 -- Operations, ordered halt < store < dump: of a pair at the target of a move, of all pairs, in joint mode, of a move.
 -- Assumes nothing.
-use Rattle.std.specs.Prelude.{ℕ, ◌-◌, cond, List, [], ◌∷◌}
+use Rattle.std.specs.Prelude.{ℕ, ◌-◌, ◌≡◌, ◌<◌, cond, List, [], ◌∷◌, Result, MatchResult}
 use Rattle.rule.specs.Sets.{has, meets}
 use Rattle.rule.specs.Reach.{reached_within}
 use Rattle.rule.specs.Drawing.{Drawing, states, events, next, joint}
 use Rattle.rule.specs.Acceptance.{meets_all, good_of}
 use Rattle.rule.specs.declared.Pair.{Pair}
+use Rattle.rule.specs.declared.NoOperation.{NoOperation}
 use Rattle.rule.specs.declared.Operation.{Operation}
 use Rattle.rule.specs.declared.Operation.TheVariants.{Halt, Store, Dump}
 
@@ -14,6 +15,10 @@ abbrev pub mark_of : Operation → ℕ
 mark_of Halt = 0
 mark_of Store = 1
 mark_of Dump = 2
+
+-- the operation that has this number, or none has it
+abbrev pub ByMark : ℕ → Result Operation NoOperation → Type 0
+ByMark mark r = MatchResult r (λ o. mark_of o ≡ mark) (λ _. 2 < mark)
 
 abbrev pub greater : Operation → Operation → Operation
 greater Halt b = b

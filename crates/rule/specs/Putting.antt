@@ -1,29 +1,26 @@
 -- What every call that writes has in common: bytes are put to the front of a lent output, or the call is refused.
 -- Assumes nothing.
-use Rattle.std.specs.Prelude.{ℕ, ◌<◌, ◌≡◌, cond, List, [], ◌∷◌, ◌++◌, length, drop, leb}
+use Rattle.std.specs.Prelude.{ℕ, ◌<◌, ◌≡◌, cond, List, [], ◌∷◌, ◌++◌, length, drop, leb, Ok, Err}
 use Rattle.rule.specs.Given.{Table, After}
 use Rattle.rule.specs.declared.Refusal.TheVariants.{Room}
-use Rattle.rule.specs.declared.Verdict.{Verdict}
-use Rattle.rule.specs.declared.Verdict.TheVariants.{Sound, Refused as Unsound}
-use Rattle.rule.specs.declared.Written.{Written}
-use Rattle.rule.specs.declared.Written.TheVariants.{Done, Refused}
 use Rattle.rule.specs.Refusals.{tell, told_of}
 use Rattle.rule.specs.declared.Told.{Told}
+use Rattle.rule.specs.Verdict.{Verdict, Written}
 
 -- what such a call tells: 0 where it is done, else the refusal's number and places
 abbrev pub written_told : Written → Told
-written_told (Done n) = tell 0 0 0
-written_told (Refused r) = told_of r
+written_told (Ok n) = tell 0 0 0
+written_told (Err r) = told_of r
 
 -- putting some bytes into an output of so much room: refused as the verdict is, refused 16, or done
 abbrev pub settled_by : Verdict → ℕ → ℕ → Written
-settled_by Sound size room = cond (leb size room) (Done size) (Refused Room)
-settled_by (Unsound r) size room = Refused r
+settled_by (Ok _) size room = cond (leb size room) (Ok size) (Err Room)
+settled_by (Err r) size room = Err r
 
 -- the output after it: the bytes stand at the front, and every other byte stays
 abbrev pub output_by : Written → List ℕ → List ℕ → List ℕ
-output_by (Done n) bytes out = bytes ++ drop n out
-output_by (Refused r) bytes out = out
+output_by (Ok n) bytes out = bytes ++ drop n out
+output_by (Err r) bytes out = out
 
 -- what is promised of a call that puts some bytes into a lent output
 pub record PutPromise (verdict : Verdict) (bytes out : List ℕ) (w : Written) (out' : List ℕ) : Type 0 where

@@ -1,6 +1,6 @@
 -- The refusal numbers, and the conditions 5 to 9, which are said of a drawing, with their places.
 -- Assumes nothing.
-use Rattle.std.specs.Prelude.{ℕ, zero, suc, ◌≡◌, Bool, true, false, cond, ◌&&◌, ◌||◌, not, List, [], ◌∷◌, leb, eqb}
+use Rattle.std.specs.Prelude.{ℕ, zero, suc, ◌≡◌, Bool, true, false, cond, ◌&&◌, ◌||◌, not, List, [], ◌∷◌, leb, eqb, Ok, Err}
 use Rattle.rule.specs.Sets.{is_empty, names_past}
 use Rattle.rule.specs.Drawing.{Drawing, states, events, count, initial, next, pair_at, joint, state_no, event_no}
 use Rattle.rule.specs.Operations.{reach_of}
@@ -10,8 +10,7 @@ use Rattle.rule.specs.declared.Told.{Told}
 use Rattle.rule.specs.declared.Refusal.{Refusal}
 use Rattle.rule.specs.declared.Refusal.TheVariants.{Frame, Class, Range, Distance, Entry, Member, Excess, Move, Stopping, Sheet, Run}
 use Rattle.rule.specs.declared.Refusal.TheVariants.{Code, Cell, Memory, Room, Book, Missing, Log, Full}
-use Rattle.rule.specs.declared.Verdict.{Verdict}
-use Rattle.rule.specs.declared.Verdict.TheVariants.{Sound, Refused}
+use Rattle.rule.specs.Verdict.{Verdict}
 
 abbrev pub tell : ℕ → ℕ → ℕ → Told
 tell number a b = record { number = number; a = a; b = b }
@@ -41,8 +40,8 @@ told_of Full = tell 26 0 0
 
 -- what a verdict tells: 0 where it is sound, else the refusal's number and places
 abbrev pub verdict_told : Verdict → Told
-verdict_told Sound = tell 0 0 0
-verdict_told (Refused r) = told_of r
+verdict_told (Ok _) = tell 0 0 0
+verdict_told (Err r) = told_of r
 
 -- n is one of these numbers; the refusal has one of them
 abbrev pub among : ℕ → List ℕ → Bool
@@ -54,22 +53,22 @@ pub record Numbered (numbers : List ℕ) (r : Refusal) : Type 0 where
 
 -- refused where the condition holds
 abbrev pub refuse_if : Bool → Refusal → Verdict
-refuse_if true r = Refused r
-refuse_if false r = Sound
+refuse_if true r = Err r
+refuse_if false r = Ok tt
 
 -- the first verdict, or where it is sound the second
 abbrev pub or_else : Verdict → Verdict → Verdict
-or_else Sound v = v
-or_else (Refused r) v = Refused r
+or_else (Ok _) v = v
+or_else (Err r) v = Err r
 
 -- the first refusal in a list of verdicts
 unfoldable pub first_of : List Verdict → Verdict
-first_of [] = Sound
+first_of [] = Ok tt
 first_of (v ∷ vs) = or_else v (first_of vs)
 
 -- the first refusal among f 0, f 1, .. below n
 unfoldable pub first_below : (ℕ → Verdict) → ℕ → Verdict
-first_below f zero = Sound
+first_below f zero = Ok tt
 first_below f (suc n) = or_else (first_below f n) (f n)
 
 -- the first refusal among the cells of n states and k events, in row order
@@ -117,7 +116,7 @@ stopped_pairs d = first_below (stop_at d) (count d)
 
 -- in joint mode the same pair, and m where no single pair is at fault
 unfoldable pub stopped_joint : Drawing → Verdict
-stopped_joint d = cond (stopping_joint d (initial d)) (or_else (stopped_pairs d) (Refused (Stopping (count d)))) Sound
+stopped_joint d = cond (stopping_joint d (initial d)) (or_else (stopped_pairs d) (Err (Stopping (count d)))) (Ok tt)
 
 unfoldable pub stopped : Drawing → Verdict
 stopped d = cond (joint d) (stopped_joint d) (stopped_pairs d)

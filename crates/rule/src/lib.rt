@@ -3,7 +3,7 @@
 #![tactic(auto)]
 
 ghost use Rattle.std.specs.Prelude.{◌≡◌};
-ghost use Rattle.rule.specs.Operations.{mark_of};
+ghost use Rattle.rule.specs.Operations.{mark_of, ByMark};
 ghost use Rattle.rule.specs.Reach.{place_of};
 ghost use Rattle.rule.specs.Range.{in_range};
 ghost use Rattle.rule.specs.Refusals.{tell, told_of};
@@ -29,7 +29,8 @@ pub struct Pair {
     pub p: u64,
 }
 
-// The class, N, K, m, the initial state and the mode: 0, or 1 for joint.
+// The class, N, K, m, the initial state and the mode: 0, or 1 for joint. Class and mode stay numbers: a shape is held before it is checked, and the refusals 2
+// and 3 are answered for just the numbers that no enum would have (`trailer::check_shape`, `rulefile::write`).
 #[derive(Clone, Copy)]
 pub struct Shape {
     pub class: u8,
@@ -40,7 +41,8 @@ pub struct Shape {
     pub mode: u8,
 }
 
-// A rule by value: of the note the first `length` bytes are used, of the table the first N*K, of the pairs the first m.
+// A rule by value: of the note the first `length` bytes are used, of the table the first N*K, of the pairs the first m. The arrays have a fixed size because
+// nothing in the library allocates.
 #[derive(Clone, Copy)]
 pub struct Rule {
     pub shape: Shape,
@@ -48,6 +50,14 @@ pub struct Rule {
     pub note: [u8; 1024],
     pub table: [u8; 2048],
     pub pairs: [Pair; 8],
+}
+
+// A rule but for its note, lent: of the pairs the first m are used.
+#[derive(Clone, Copy)]
+pub struct Body<'a> {
+    pub shape: Shape,
+    pub table: &'a [u8],
+    pub pairs: &'a [Pair],
 }
 
 // The largest N and K that there may be.
@@ -85,7 +95,7 @@ impl Rule {
 }
 
 // What the monitor does at a move, rising.
-#[derive(Clone, Copy)]
+#[derive(Clone, Copy, PartialEq, Eq, PartialOrd, Ord)]
 pub enum Operation {
     Halt,
     Store,
@@ -93,7 +103,7 @@ pub enum Operation {
 }
 
 impl Operation {
-    // Its number in a sheet.
+    // Its number in a sheet. A method: docs/PROMISES.md names it, and a From would only call it.
     pub fn mark(self) -> u8
         ensures { result ≡ mark_of self }
     {
@@ -105,7 +115,27 @@ impl Operation {
     }
 }
 
+// A number that stands for no operation.
+#[derive(Clone, Copy)]
+pub struct NoOperation;
+
+impl TryFrom<u8> for Operation {
+    type Error = NoOperation;
+
+    ghost try_from_gives = { ByMark };
+
+    fn try_from(mark: u8) -> Result<Self, NoOperation> {
+        match mark {
+            0 => Ok(Operation::Halt),
+            1 => Ok(Operation::Store),
+            2 => Ok(Operation::Dump),
+            _ => Err(NoOperation),
+        }
+    }
+}
+
 // The refusals by number, with their places A and B where they have any. `told_of` of specs/ gives each its number; 10 is never given and stays unused.
+// Which set of a pair, and which book, stay numbers: `told` promises an answer for each of them.
 #[derive(Clone, Copy)]
 pub enum Refusal {
     Frame,
@@ -129,20 +159,6 @@ pub enum Refusal {
     Full,
 }
 
-// What checking comes to.
-#[derive(Clone, Copy)]
-pub enum Verdict {
-    Sound,
-    Refused(Refusal),
-}
-
-// What a call that writes comes to: so many bytes at the front of the output, or a refusal.
-#[derive(Clone, Copy)]
-pub enum Written {
-    Done(usize),
-    Refused(Refusal),
-}
-
 // A refusal as the paper's table has it: its number and its places.
 #[derive(Clone, Copy)]
 pub struct Told {
@@ -160,7 +176,7 @@ impl Told {
 }
 
 impl Refusal {
-    // Its number and places.
+    // Its number and places. A method, as `mark` is.
     pub fn told(self) -> Told
         ensures { result ≡ told_of self }
     {

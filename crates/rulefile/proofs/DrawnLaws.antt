@@ -10,8 +10,6 @@ use Rattle.rule.specs.Drawing.{Drawing, states, events, count, no_pair, drawn, r
 use Rattle.rule.specs.Range.{Classed, Ranged}
 use Rattle.rule.specs.Refusals.{first_of, conditions}
 use Rattle.rule.specs.declared.Rule.{Rule}
-use Rattle.rule.specs.declared.Verdict.{Verdict}
-use Rattle.rule.specs.declared.Verdict.TheVariants.{Sound}
 use Rattle.rule.proofs.RefusalLaws.{first_append, else_sound}
 use Rattle.trailer.proofs.SoundLaws.{classed_says, ranged_says, cells_in}
 use Rattle.rulefile.specs.Layout.{drawing_in}
@@ -20,9 +18,11 @@ use Rattle.rulefile.proofs.ListLaws.{length_padded, take_padded}
 use Rattle.rulefile.proofs.PartsLaws.{SoundFile, shape_drawn, note_drawn}
 use Rattle.rulefile.proofs.WritingLaws.{measured_sound}
 use Rattle.rulefile.proofs.WellLaws.{file_table, file_pairs}
+use Rattle.rule.specs.Verdict.{Verdict}
+use Rattle.std.specs.Prelude.{Ok}
 
 -- both parts of a list of conditions are sound where all of it is
-append_sound : (vs ws : List Verdict) → first_of (vs ++ ws) ≡ Sound → (first_of vs ≡ Sound) × (first_of ws ≡ Sound)
+append_sound : (vs ws : List Verdict) → first_of (vs ++ ws) ≡ Ok tt → (first_of vs ≡ Ok tt) × (first_of ws ≡ Ok tt)
 append_sound vs ws e = (else_sound (first_of vs) (first_of ws)).0 (rw first_append at e)
 
 -- a drawing that has all its parts and that no check refuses
@@ -32,7 +32,7 @@ pub record SoundDrawing (d : Drawing) : Type 0 where
   pub note_in : length d.note ≤ 1024
   pub table_whole : length d.table ≡ states d * events d
   pub pairs_whole : length d.pairs ≡ count d
-  pub passes : first_of (conditions d) ≡ Sound
+  pub passes : first_of (conditions d) ≡ Ok tt
 
 -- the drawing of a sound file is sound
 pub file_drawing : (f : List ℕ) → SoundFile f → SoundDrawing (drawing_in f)
@@ -47,7 +47,7 @@ file_drawing f s =
     }
 
 -- the drawing of a rule by value is sound where the rule is
-pub rule_drawing : (r : Rule) → Held r → verdict_of r ≡ Sound → SoundDrawing (drawn r)
+pub rule_drawing : (r : Rule) → Held r → verdict_of r ≡ Ok tt → SoundDrawing (drawn r)
 unfolding drawn verdict_of
 rule_drawing r h e =
     let p = append_sound (measure_conditions r.shape r.length) (conditions (drawn r)) e in
@@ -80,7 +80,7 @@ module _ (d : Drawing) (s : SoundDrawing d) where
       }
 
   -- no check refuses it
-  pub rule_sound : verdict_of (rule_of d) ≡ Sound
+  pub rule_sound : verdict_of (rule_of d) ≡ Ok tt
   unfolding verdict_of first_of rule_of
   rule_sound =
       rw (drawn_rule, (classed_says d.shape).1 s.class, (ranged_says d.shape).1 s.range, le-leb (length d.note) 1024 s.note_in) s.passes

@@ -14,7 +14,6 @@ use Rattle.rule.specs.Range.{rule_limits, most_pairs, last_mode, Outside, under,
 use Rattle.rule.specs.Refusals.{refuse_if}
 use Rattle.rule.specs.declared.Shape.{Shape}
 use Rattle.rule.specs.declared.Refusal.{Refusal}
-use Rattle.rule.specs.declared.Verdict.TheVariants.{Sound}
 use Rattle.rule.proofs.BoolLaws.{Fails, fails_say, le_fails, eq_fails, and_fails, or_fails}
 use Rattle.rule.proofs.RangeLaws.{outside_fails, range_fails}
 use Rattle.rule.proofs.SetLaws.{below_or}
@@ -24,9 +23,10 @@ use Rattle.trailer.specs.Conditions.{framed, classed, ranged, placed}
 use Rattle.trailer.specs.declared.Trailer.{Trailer}
 use Rattle.rulefile.specs.Given.{trailer_byte, BadFrame, bad_size, byte_10, byte_11, BadClass, BadRange, bad_numbers, bad_m, byte_5, not_one}
 use Rattle.rulefile.specs.Given.{BadDistance, to_table, to_pairs, short, note}
+use Rattle.std.specs.Prelude.{Ok}
 
 -- what passed a test
-pub passed : {A : Type 0} {t : Bool} (x : Refusal) → Fails t A → refuse_if (not t) x ≡ Sound → A → ⊥
+pub passed : {A : Type 0} {t : Bool} (x : Refusal) → Fails t A → refuse_if (not t) x ≡ Ok tt → A → ⊥
 passed {t = t} x f p a = not_both p ((refuse_refused (not t) x x).1 ((fails_say f).1 a, refl))
 
 -- 1

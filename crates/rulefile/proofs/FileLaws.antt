@@ -17,7 +17,6 @@ use Rattle.rule.specs.Refusals.{first_of}
 use Rattle.rule.specs.WellDrawn.{WellDrawn}
 use Rattle.rule.specs.declared.Pair.{Pair}
 use Rattle.rule.specs.declared.Shape.{Shape}
-use Rattle.rule.specs.declared.Verdict.TheVariants.{Sound}
 use Rattle.rule.proofs.ClassLaws.{well_drawn}
 use Rattle.trailer.specs.Layout.{pairs_back, table_back}
 use Rattle.trailer.specs.Conditions.{framed, placed}
@@ -31,6 +30,7 @@ use Rattle.trailer.proofs.LayoutLaws.{length_trailer_out}
 use Rattle.rulefile.proofs.LayoutLaws.{length_pair_out, length_pairs_out}
 use Rattle.rulefile.proofs.PartsLaws.{SoundFile}
 use Rattle.rulefile.proofs.DrawnLaws.{SoundDrawing}
+use Rattle.std.specs.Prelude.{Ok}
 
 -- written, then read
 
@@ -166,7 +166,7 @@ module _ (d : Drawing) (s : SoundDrawing d) where
       )
 
   -- so it is sound
-  pub file_sound : verdict_on (file_of d) ≡ Sound
+  pub file_sound : verdict_on (file_of d) ≡ Ok tt
   unfolding verdict_on first_of
   file_sound =
       let c = (classed_says d.shape).1 s.class in
@@ -174,7 +174,7 @@ module _ (d : Drawing) (s : SoundDrawing d) where
       rw (frame_passes, place_passes, trailer_in_file, c, g, drawing_read) s.passes
 
   -- and reads as the rule by value that the drawing is
-  pub file_read : reading_of (file_of d) ≡ record { verdict = Sound; rule = rule_of d }
+  pub file_read : reading_of (file_of d) ≡ Ok (rule_of d)
   unfolding reading_of
   file_read = rw (file_sound, drawing_read)
 

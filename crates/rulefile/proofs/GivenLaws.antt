@@ -2,36 +2,35 @@
 -- earlier row does. Assumes nothing.
 use Prim.Native.Nat.{ℕ}
 use native.Mathlib.Omega.{arith}
-use mathlib.Core.Path.{◌≡◌, refl, subst}
+use mathlib.Core.Path.{◌≡◌, refl}
 use mathlib.Core.Bool.{true}
-use mathlib.Core.List.{List, []}
+use mathlib.Core.List.{List}
 use mathlib.Core.Logic.{inr, ◌↔◌}
 use lib.ListN.{length}
 use lib.Seq.{length-take-le}
-use Rattle.rule.specs.Drawing.{drawn, rule_of, zero_rule}
+use Rattle.rule.specs.Drawing.{drawn, rule_of}
 use Rattle.rule.specs.Refusals.{among, first_of, verdict_told}
 use Rattle.rule.specs.Given.{NoRow, Given, done, refused, Ends}
 use Rattle.rule.specs.declared.Rule.{Rule}
 use Rattle.rule.specs.declared.Refusal.{Refusal}
 use Rattle.rule.specs.declared.Refusal.TheVariants.{Frame}
-use Rattle.rule.specs.declared.Verdict.{Verdict}
-use Rattle.rule.specs.declared.Verdict.TheVariants.{Sound, Refused}
 use Rattle.rule.proofs.BoolLaws.{clash, fails_say, le_fails}
 use Rattle.rule.proofs.NumberLaws.{among_says, Gives}
 use Rattle.rule.proofs.PutLaws.{put_gives, put_does, put_ends}
 use Rattle.rule.proofs.TableLaws.{Within, Answers, decided, then, as_rows, sound_exactly, numbers}
 use Rattle.trailer.specs.Layout.{trailer_in}
 use Rattle.rulefile.specs.Layout.{drawing_in, file_of}
-use Rattle.rulefile.specs.Reading.{verdict_on, reading_by, reading_of, parts_by, parts_of}
+use Rattle.rulefile.specs.Reading.{verdict_on, when_sound, verdict_in, contents_of, reading_of, parts_of}
 use Rattle.rulefile.specs.Writing.{verdict_of, WritePromise}
 use Rattle.rulefile.specs.Given.{BadFrame, BadDistance, LongNote, drawing_order, DrawingRow, reading_order, Reading, at_1, drawing, writing_order}
 use Rattle.rulefile.specs.Given.{Writing}
-use Rattle.rule.specs.declared.Written.{Written}
-use Rattle.rule.specs.declared.Written.TheVariants.{Done, Refused as Unwritten}
 use Rattle.rulefile.proofs.ListLaws.{length_up_to}
+use Rattle.rulefile.proofs.WhenLaws.{when_ok, when_err}
 use Rattle.rulefile.proofs.FaultLaws.{frame_fails, distance_fails}
 use Rattle.rulefile.proofs.RowLaws.{drawing_within, shape_rows}
 use Rattle.rule.specs.Putting.{written_told}
+use Rattle.rule.specs.Verdict.{Verdict, Written}
+use Rattle.std.specs.Prelude.{Ok, Err}
 
 -- the verdict on a file, and on a rule by value
 
@@ -68,50 +67,46 @@ rule_answers r eight =
 -- reading: of every file
 
 module _ (f : List ℕ) where
-  read_verdict : (v : Verdict) (r : Rule) → v ≡ (reading_by v r).verdict
-  read_verdict Sound r = refl
-  read_verdict (Refused x) r = refl
-
-  read_rows : Answers (Reading f) reading_order (reading_of f).verdict
-  unfolding reading_of
-  read_rows = subst (λ v. Answers (Reading f) reading_order v) (read_verdict (verdict_on f) (rule_of (drawing_in f))) (file_answers f)
-
   -- the table: a refusal is given exactly when no earlier row holds and its own does
-  pub read_gives : (x : Refusal) → ((reading_of f).verdict ≡ Refused x) ↔ Given (Reading f) x reading_order
-  read_gives = read_rows.gives
-
-  -- and none is exactly when no row holds
-  pub read_sound : ((reading_of f).verdict ≡ Sound) ↔ NoRow (Reading f)
-  read_sound = sound_exactly (file_within f) read_rows
-
-  -- looking at it and reading it end so: refused, 0 in every place
-  pub look_ends : Ends (Reading f) reading_order (verdict_told (parts_of f).verdict) (parts_of f ≡ parts_by (parts_of f).verdict [])
-  unfolding parts_of
-  look_ends = by (verdict_on f) (file_answers f)
-    where
-      by : (v : Verdict) → Answers (Reading f) reading_order v
-          → Ends (Reading f) reading_order (verdict_told (parts_by v f).verdict) (parts_by v f ≡ parts_by (parts_by v f).verdict [])
-      by Sound a = record { tells = done ((sound_exactly (file_within f) a).0 refl); rest = λ n. absurd (n refl) }
-      by (Refused x) a = record { tells = refused ((a.gives x).0 refl); rest = λ n. refl }
-
-  pub read_ends : Ends (Reading f) reading_order (verdict_told (reading_of f).verdict) ((reading_of f).rule ≡ zero_rule)
+  pub read_gives : (x : Refusal) → (reading_of f ≡ Err x) ↔ Given (Reading f) x reading_order
   unfolding reading_of
-  read_ends = by (verdict_on f) (file_answers f)
+  read_gives x =
+      let g = (file_answers f).gives x in
+      (λ e. g.0 (when_err (verdict_on f) (rule_of (drawing_in f)) e), λ n. rw (g.1 n))
+
+  -- and none is, but the rule that is drawn read, exactly when no row holds
+  pub read_sound : (reading_of f ≡ Ok (rule_of (drawing_in f))) ↔ NoRow (Reading f)
+  unfolding reading_of
+  read_sound =
+      let s = sound_exactly (file_within f) (file_answers f) in
+      (λ e. s.0 (when_ok (verdict_on f) (rule_of (drawing_in f)) e).0, λ n. rw (s.1 n))
+
+  -- looking at it and reading it end so: refused, with nothing but the refusal
+  ends : {A : Type 0} (a : A) → let r = when_sound (verdict_on f) a in
+      Ends (Reading f) reading_order (verdict_told (verdict_in r)) ((x : Refusal) × (r ≡ Err x))
+  ends {A} a = by (verdict_on f) (file_answers f)
     where
       by : (v : Verdict) → Answers (Reading f) reading_order v
-          → Ends (Reading f) reading_order (verdict_told (reading_by v (rule_of (drawing_in f))).verdict)
-          ((reading_by v (rule_of (drawing_in f))).rule ≡ zero_rule)
-      by Sound a = record { tells = done ((sound_exactly (file_within f) a).0 refl); rest = λ n. absurd (n refl) }
-      by (Refused x) a = record { tells = refused ((a.gives x).0 refl); rest = λ n. refl }
+          → Ends (Reading f) reading_order (verdict_told (verdict_in (when_sound v a))) ((x : Refusal) × (when_sound v a ≡ Err x))
+      by (Ok _) a = record { tells = done ((sound_exactly (file_within f) a).0 refl); rest = λ n. absurd (n refl) }
+      by (Err x) a = record { tells = refused ((a.gives x).0 refl); rest = λ n. (x, refl) }
+
+  pub look_ends : Ends (Reading f) reading_order (verdict_told (verdict_in (parts_of f))) ((x : Refusal) × (parts_of f ≡ Err x))
+  unfolding parts_of
+  look_ends = ends (contents_of f)
+
+  pub read_ends : Ends (Reading f) reading_order (verdict_told (verdict_in (reading_of f))) ((x : Refusal) × (reading_of f ≡ Err x))
+  unfolding reading_of
+  read_ends = ends (rule_of (drawing_in f))
 
 -- writing: of any answer that the promise allows, and a rule by value, which carries eight pairs
 
 module _ (r : Rule) {out : List ℕ} {w : Written} {out' : List ℕ} (eight : length r.pairs ≡ 8) (kept : WritePromise r out w out') where
-  pub write_gives : (x : Refusal) → (w ≡ Unwritten x) ↔ Given (Writing r (length out)) x writing_order
+  pub write_gives : (x : Refusal) → (w ≡ Err x) ↔ Given (Writing r (length out)) x writing_order
   write_gives = put_gives (drawing_within _ _) refl (rule_answers r eight) kept
 
   -- done exactly when no row holds; the room is one of them
-  pub write_done : (n : ℕ) → (w ≡ Done n) ↔ (NoRow (Writing r (length out)) × (n ≡ length (file_of (drawn r))))
+  pub write_done : (n : ℕ) → (w ≡ Ok n) ↔ (NoRow (Writing r (length out)) × (n ≡ length (file_of (drawn r))))
   write_done = put_does (drawing_within _ _) refl (rule_answers r eight) kept
 
   pub write_ends : Ends (Writing r (length out)) writing_order (written_told w) (out' ≡ out)

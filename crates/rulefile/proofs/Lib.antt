@@ -1,6 +1,7 @@
 -- lists, and what the layout's functions come to
 pub mod ListLaws
 pub mod LayoutLaws
+pub mod WhenLaws
 -- what a file, or a rule by value, has that passed the checks
 pub mod ReadingLaws
 pub mod PartsLaws

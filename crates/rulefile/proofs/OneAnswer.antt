@@ -15,4 +15,4 @@ write_one_answer κs a x y = (x.told.answer ∙ sym y.told.answer, λ i. (tt, ((
 
 pub put_file_one_answer : OneAnswer contracts.put_file.ended proofs.put_file.Reads.Learnt
 put_file_one_answer κs a x y =
-    (x.told.answer ∙ sym y.told.answer, λ i. (tt, (tt, (tt, (tt, ((x.told.output ∙ sym y.told.output) i, tt))))))
+    (x.told.answer ∙ sym y.told.answer, λ i. (tt, (tt, ((x.told.output ∙ sym y.told.output) i, tt))))

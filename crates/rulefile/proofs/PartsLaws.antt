@@ -1,6 +1,6 @@
 -- What a file that was found sound has: the facts that callers of `parts` and `read` need.
 -- Assumes nothing.
-use mathlib.Core.Path.{◌≡◌, refl, sym, ap, subst⁻¹, ◌∙◌}
+use mathlib.Core.Path.{◌≡◌, refl, sym, subst}
 use mathlib.Core.List.{List}
 use Prim.Native.Nat.{ℕ, ◌+◌, ◌-◌, ◌*◌, ◌≤◌}
 use native.Mathlib.Omega.{arith}
@@ -10,16 +10,17 @@ use Rattle.rule.specs.Drawing.{no_pair, padded}
 use Rattle.rule.specs.Range.{Classed, Ranged}
 use Rattle.rule.specs.Refusals.{first_of, conditions}
 use Rattle.rule.proofs.RefusalLaws.{first_sound}
+use Rattle.rule.specs.declared.Refusal.{Refusal}
 use Rattle.rule.specs.declared.Refusal.TheVariants.{Frame, Class, Range, Distance}
-use Rattle.rule.specs.declared.Verdict.{Verdict}
-use Rattle.rule.specs.declared.Verdict.TheVariants.{Sound, Refused}
 use Rattle.trailer.specs.Layout.{table_back, pairs_back}
 use Rattle.trailer.proofs.SoundLaws.{Framed, framed_says, classed_says, ranged_says, Placed, placed_says, passed}
 use Rattle.trailer.specs.Layout.{trailer_in}
 use Rattle.rulefile.specs.Layout.{drawing_in}
-use Rattle.rulefile.specs.Reading.{verdict_on, parts_by, parts_of}
+use Rattle.rulefile.specs.Reading.{verdict_on, verdict_in, contents_of, parts_of}
 use Rattle.rulefile.specs.declared.Contents.{Contents}
 use Rattle.rulefile.proofs.ListLaws.{length_up_to, take_padded}
+use Rattle.rulefile.proofs.WhenLaws.{when_verdict, when_ok, when_err}
+use Rattle.std.specs.Prelude.{Ok, Err}
 
 -- what the ten conditions leave
 pub record SoundFile (f : List ℕ) : Type 0 where
@@ -27,9 +28,9 @@ pub record SoundFile (f : List ℕ) : Type 0 where
   pub classed : Classed (trailer_in f).shape
   pub ranged : Ranged (trailer_in f).shape
   pub placed : Placed (trailer_in f) (length f)
-  pub sound : first_of (conditions (drawing_in f)) ≡ Sound
+  pub sound : first_of (conditions (drawing_in f)) ≡ Ok tt
 
-pub sound_file : (f : List ℕ) → verdict_on f ≡ Sound → SoundFile f
+pub sound_file : (f : List ℕ) → verdict_on f ≡ Ok tt → SoundFile f
 unfolding verdict_on
 sound_file f e =
     let a = (first_sound _ _).0 e in
@@ -84,22 +85,27 @@ pub record SoundParts (f : List ℕ) (p : Contents) : Type 0 where
   pub table_long : length (drawing_in f).table ≡ p.shape.states * p.shape.events
   pub pairs_long : length (drawing_in f).pairs ≡ p.shape.pairs
   -- which has none of the faults 5 to 9
-  pub sound : first_of (conditions (drawing_in f)) ≡ Sound
+  pub sound : first_of (conditions (drawing_in f)) ≡ Ok tt
 
 -- the verdict that was found
-pub parts_verdict : (f : List ℕ) {p : Contents} → p ≡ parts_of f → p.verdict ≡ verdict_on f
+pub parts_verdict : (f : List ℕ) → verdict_in (parts_of f) ≡ verdict_on f
 unfolding parts_of
-parts_verdict f e = ap (λ (p : Contents). p.verdict) e ∙ told (verdict_on f)
-  where
-    told : (v : Verdict) → (parts_by v f).verdict ≡ v
-    told Sound = refl
-    told (Refused r) = refl
+parts_verdict f = when_verdict (verdict_on f) (contents_of f)
 
-pub parts_of_sound : (f : List ℕ) → verdict_on f ≡ Sound → parts_of f ≡ parts_by Sound f
-unfolding parts_of
-parts_of_sound f e = rw e
+module _ (f : List ℕ) where
+  pub parts_refused : {r : Refusal} → Err r ≡ parts_of f → verdict_on f ≡ Err r
+  unfolding parts_of
+  parts_refused e = when_err (verdict_on f) (contents_of f) (sym e)
 
-parts_all : (f : List ℕ) → SoundFile f → SoundParts f (parts_by Sound f)
+  pub parts_sound : {p : Contents} → Ok p ≡ parts_of f → verdict_on f ≡ Ok tt
+  unfolding parts_of
+  parts_sound e = (when_ok (verdict_on f) (contents_of f) (sym e)).0
+
+  parts_are : {p : Contents} → Ok p ≡ parts_of f → contents_of f ≡ p
+  unfolding parts_of
+  parts_are e = (when_ok (verdict_on f) (contents_of f) (sym e)).1
+
+parts_all : (f : List ℕ) → SoundFile f → SoundParts f (contents_of f)
 unfolding drawing_in
 parts_all f s =
     let h = (trailer_in f).shape in
@@ -126,18 +132,16 @@ parts_all f s =
     between : (n p k : ℕ) → 12 + p + k ≤ n → n - (12 + p) - (n - (12 + p + k)) ≡ k
     between n p k h = omega arith
 
-pub sound_parts : (f : List ℕ) {p : Contents} → p ≡ parts_of f → p.verdict ≡ Sound → SoundParts f p
-sound_parts f e v =
-    let s = sym (parts_verdict f e) ∙ v in
-    subst⁻¹ (λ (p : Contents). SoundParts f p) (e ∙ parts_of_sound f s) (parts_all f (sound_file f s))
+pub sound_parts : (f : List ℕ) {p : Contents} → Ok p ≡ parts_of f → SoundParts f p
+sound_parts f {p} e = subst (λ (p : Contents). SoundParts f p) (parts_are f e) (parts_all f (sound_file f (parts_sound f e)))
 
 -- where its note and its table stand
-module _ (f : List ℕ) {p : Contents} (is : p ≡ parts_of f) (v : p.verdict ≡ Sound) where
+module _ (f : List ℕ) {p : Contents} (is : Ok p ≡ parts_of f) where
   pub table_order : p.start ≤ p.end
-  table_order = omega (arith, (sound_parts f is v).table_ends)
+  table_order = omega (arith, (sound_parts f is).table_ends)
 
   pub table_inside : p.end ≤ length f
-  table_inside = omega (arith, (sound_parts f is v).pairs_end)
+  table_inside = omega (arith, (sound_parts f is).pairs_end)
 
   pub note_inside : p.start ≤ length f
   note_inside = omega (arith, table_order, table_inside)

@@ -1,16 +1,15 @@
 -- What looking at a rule file and reading it come to.
 -- Assumes nothing.
-use Rattle.std.specs.Prelude.{ℕ, ◌-◌, List, ◌∷◌, ◌++◌, length, replicate}
-use Rattle.rule.specs.Drawing.{state_no, no_pair, padded, rule_of, zero_rule}
+use Rattle.std.specs.Prelude.{ℕ, ◌-◌, List, ◌∷◌, ◌++◌, length, Result, Ok, Err}
+use Rattle.rule.specs.Drawing.{no_pair, padded, rule_of}
 use Rattle.rule.specs.Refusals.{first_of, conditions}
+use Rattle.rule.specs.Verdict.{Verdict}
+use Rattle.rule.specs.declared.Refusal.{Refusal}
 use Rattle.rule.specs.declared.Rule.{Rule}
-use Rattle.rule.specs.declared.Verdict.{Verdict}
-use Rattle.rule.specs.declared.Verdict.TheVariants.{Sound, Refused}
 use Rattle.trailer.specs.Layout.{table_back, pairs_back, trailer_in}
 use Rattle.trailer.specs.Conditions.{frame, head_conditions}
 use Rattle.rulefile.specs.Layout.{drawing_in}
 use Rattle.rulefile.specs.declared.Contents.{Contents}
-use Rattle.rulefile.specs.declared.Reading.{Reading}
 
 -- the conditions 1 to 9 in order
 abbrev pub file_conditions : List ℕ → List Verdict
@@ -21,33 +20,30 @@ file_conditions f =
 unfoldable pub verdict_on : List ℕ → Verdict
 verdict_on f = first_of (file_conditions f)
 
--- the parts of a file by its verdict
-abbrev pub parts_by : Verdict → List ℕ → Contents
-parts_by Sound f =
+-- a value where a verdict is sound, else its refusal
+abbrev pub when_sound : {A : Type 0} → Verdict → A → Result A Refusal
+when_sound (Ok _) a = Ok a
+when_sound (Err r) a = Err r
+
+-- the verdict in such a result
+abbrev pub verdict_in : {A : Type 0} → Result A Refusal → Verdict
+verdict_in (Ok a) = Ok tt
+verdict_in (Err r) = Err r
+
+-- the parts of a sound file: what is drawn in it, and where its table stands
+abbrev pub contents_of : List ℕ → Contents
+contents_of f =
     let d = drawing_in f in
     record {
-      verdict = Sound;
       shape = d.shape;
       start = length f - table_back d.shape;
       end = length f - pairs_back d.shape;
       pairs = padded 8 no_pair d.pairs;
     }
-parts_by (Refused r) f =
-    record {
-      verdict = Refused r;
-      shape = record { class = 0; states = 0; events = 0; pairs = 0; initial = state_no 0; mode = 0 };
-      start = 0;
-      end = 0;
-      pairs = replicate 8 no_pair;
-    }
 
-unfoldable pub parts_of : List ℕ → Contents
-parts_of f = parts_by (verdict_on f) f
+unfoldable pub parts_of : List ℕ → Result Contents Refusal
+parts_of f = when_sound (verdict_on f) (contents_of f)
 
--- the reading of a file by its verdict: the rule that is drawn, or 0 in every place
-abbrev pub reading_by : Verdict → Rule → Reading
-reading_by Sound r = record { verdict = Sound; rule = r }
-reading_by (Refused x) r = record { verdict = Refused x; rule = zero_rule }
-
-unfoldable pub reading_of : List ℕ → Reading
-reading_of f = reading_by (verdict_on f) (rule_of (drawing_in f))
+-- the rule that is drawn in a sound file
+unfoldable pub reading_of : List ℕ → Result Rule Refusal
+reading_of f = when_sound (verdict_on f) (rule_of (drawing_in f))

@@ -1,19 +1,17 @@
 -- What writing a rule comes to, and what it leaves in the output.
 -- Assumes nothing.
-use Rattle.std.specs.Prelude.{ℕ, ◌≡◌, not, List, [], ◌∷◌, ◌++◌, length, leb}
+use Rattle.std.specs.Prelude.{ℕ, ◌≡◌, not, List, [], ◌∷◌, ◌++◌, length, leb, Ok}
 use Rattle.rule.specs.Drawing.{Drawing, drawn}
 use Rattle.rule.specs.Range.{most_pairs, longest_note}
 use Rattle.rule.specs.Putting.{PutPromise}
 use Rattle.rule.specs.Refusals.{refuse_if, first_of, conditions}
 use Rattle.rule.specs.declared.Rule.{Rule}
-use Rattle.rule.specs.declared.Pair.{Pair}
+use Rattle.rule.specs.declared.Body.{Body}
 use Rattle.rule.specs.declared.Shape.{Shape}
 use Rattle.rule.specs.declared.Refusal.TheVariants.{Distance}
-use Rattle.rule.specs.declared.Verdict.{Verdict}
-use Rattle.rule.specs.declared.Verdict.TheVariants.{Sound}
 use Rattle.trailer.specs.Conditions.{class, range}
 use Rattle.rulefile.specs.Layout.{file_of}
-use Rattle.rule.specs.declared.Written.{Written}
+use Rattle.rule.specs.Verdict.{Verdict, Written}
 
 -- 4 of a rule by value: the note is over 1,024
 abbrev pub noted : ℕ → Verdict
@@ -36,12 +34,12 @@ pub record Held (r : Rule) : Type 0 where
   pub pairs_long : length r.pairs ≡ most_pairs
 
 -- the drawing that has these parts
-abbrev pub parts : Shape → List ℕ → List ℕ → List Pair → Drawing
-parts s note table ps = record { shape = s; note = note; table = table; pairs = ps }
+abbrev pub parts : List ℕ → Body → Drawing
+parts note b = record { shape = b.shape; note = note; table = b.table.now; pairs = b.pairs.now }
 
 -- the promise of putting a drawing's file, unchecked
 abbrev pub FilePromise : Drawing → List ℕ → Written → List ℕ → Type 0
-FilePromise d out w out' = PutPromise Sound (file_of d) out w out'
+FilePromise d out w out' = PutPromise (Ok tt) (file_of d) out w out'
 
 -- the promise of writing a rule
 abbrev pub WritePromise : Rule → List ℕ → Written → List ℕ → Type 0

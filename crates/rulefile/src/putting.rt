@@ -1,26 +1,24 @@
 // A rule file put: its parts, one after the other, into a lent output.
-ghost use Rattle.std.specs.Prelude.{◌≡◌, ◌++◌, ◌+◌, ◌*◌, ◌≤◌, leb, length, get_or};
-ghost use Rattle.rule.specs.Drawing.{no_pair};
+ghost use Rattle.std.specs.Prelude.{◌≡◌, ◌++◌, ◌+◌, ◌*◌, ◌≤◌, length};
+ghost use Rattle.std.specs.Option.{SomeIff};
 ghost use Rattle.rule.specs.Refusals.{first_of};
 ghost use Rattle.trailer.specs.Layout.{trailer_out};
-ghost use Rattle.rulefile.specs.Layout.{pair_out, pairs_out};
-ghost use Rattle.rulefile.specs.Writing.{measure_conditions, parts, FilePromise};
+ghost use Rattle.rulefile.specs.Layout.{pair_out, pairs_out, file_of};
+ghost use Rattle.rulefile.specs.Writing.{measure_conditions, parts};
 
-use rule::{Pair, Refusal, Rule, Shape, Verdict, Written};
+use rule::{Body, Pair, Refusal, Rule, Shape};
 use trailer::check_shape;
 
 // The refusals 2 to 4 of a rule by value.
-pub(crate) fn check_head(shape: Shape, length: usize) -> Verdict
+#[tactic(auto, using(crate::proofs::WritingLaws::head_told), unfolding(rule::specs::Refusals::first_of))]
+pub(crate) fn check_head(shape: Shape, length: usize) -> Result<(), Refusal>
     ensures { result ≡ first_of (measure_conditions shape length) }
 {
-    let verdict = check_shape(shape);
-    let Verdict::Sound = verdict else {
-        return verdict;
-    };
+    check_shape(shape)?;
     if Rule::NOTE < length {
-        return Verdict::Refused(Refusal::Distance);
+        return Err(Refusal::Distance);
     }
-    Verdict::Sound
+    Ok(())
 }
 
 // Fills sixteen bytes with a pair: R, then P.
@@ -28,82 +26,46 @@ fn put_pair(out: &mut [u8], pair: Pair)
     requires { length out.old ≡ 16 }
     ensures { out.new ≡ pair_out pair }
 {
-    octets::put_number(&mut out[0..8], pair.r);
-    octets::put_number(&mut out[8..16], pair.p);
+    let (r, p) = out.split_at_mut(8);
+    octets::put_number(r, pair.r);
+    octets::put_number(p, pair.p);
 }
 
-// Pair i, and past the array the empty pair.
-fn pair_at(pairs: [Pair; 8], i: usize) -> Pair
-    ensures { result ≡ get_or pairs i no_pair }
-{
-    if i < 8 {
-        return pairs[i];
-    }
-    Pair { r: 0, p: 0 }
-}
-
-// Fills a slice with the first of some pairs.
-fn put_pairs(out: &mut [u8], pairs: [Pair; 8], count: u8)
+// Fills a slice with the first of some pairs, and with empty ones past them. It goes over places: nothing is known of what a loop over
+// `chunks_exact_mut` leaves.
+#[tactic(auto, unfolding(crate::specs::Layout::flat_up_to))]
+fn put_pairs(out: &mut [u8], pairs: &[Pair], count: u8)
     requires { length out.old ≡ 16 * count }
-    ensures { out.new ≡ pairs_out pairs count }
+    ensures { out.new ≡ pairs_out pairs.now count }
 {
-    let end = count as usize;
-    let mut i: usize = 0;
-    while i < end {
-        let pair = pair_at(pairs, i);
+    for i in 0..count as usize {
+        let pair = pairs.get(i).copied().unwrap_or(Pair { r: 0, p: 0 });
         let at = 16 * i;
         put_pair(&mut out[at..at + 16], pair);
-        i += 1;
     }
 }
 
-// Fills a slice with the used pairs and the trailer.
-fn put_end(out: &mut [u8], shape: Shape, pairs: [Pair; 8])
-    requires { length out.old ≡ 16 * shape.pairs + 12 }
-    ensures { out.new ≡ pairs_out pairs shape.pairs ++ trailer_out shape }
+// Fills a slice with the file that has these parts, one after the other.
+#[tactic(auto, using(crate::proofs::LayoutLaws::trailer_put), unfolding(crate::specs::Layout::file_of))]
+pub(crate) fn put_parts(out: &mut [u8], note: &[u8], body: Body)
+    requires { length out.old ≡ length note.now + length body.table.now + (16 * body.shape.pairs + 12) }
+    ensures { out.new ≡ file_of (parts note.now body.entry) }
 {
-    let end = trailer::PAIR * (shape.pairs as usize);
-    put_pairs(&mut out[0..end], pairs, shape.pairs);
-    trailer::put_trailer(&mut out[end..], shape);
+    let (front, rest) = out.split_at_mut(note.len());
+    front.copy_from_slice(note);
+    let (table, rest) = rest.split_at_mut(body.table.len());
+    table.copy_from_slice(body.table);
+    let (pairs, rest) = rest.split_at_mut(trailer::PAIR * (body.shape.pairs as usize));
+    put_pairs(pairs, body.pairs, body.shape.pairs);
+    trailer::put_trailer(rest, body.shape);
 }
 
-// Fills a slice with all that stands after the note: the table, the used pairs and the trailer.
-fn fill(out: &mut [u8], table: &[u8], shape: Shape, pairs: [Pair; 8])
-    requires { length out.old ≡ length table.now + (16 * shape.pairs + 12) }
-    ensures { out.new ≡ table.now ++ (pairs_out pairs shape.pairs ++ trailer_out shape) }
+// The size of the file that has these parts, where there is so much room. No sum is taken that could be too large.
+pub(crate) fn size_within(note: usize, body: Body, room: usize) -> Option<usize>
+    ensures { let size = note + length body.entry.table.now + (16 * body.entry.shape.pairs + 12) in SomeIff result (size ≤ room) size }
 {
-    let cells = table.len();
-    octets::copy(table, out);
-    put_end(&mut out[cells..], shape, pairs);
-}
-
-// Puts the file that has these parts to the front of an output that has room for it.
-pub(crate) fn put_parts(
-    shape: Shape,
-    note: &[u8],
-    table: &[u8],
-    pairs: [Pair; 8],
-    out: &mut [u8],
-) -> Written
-    requires { length note.now + length table.now + (16 * shape.pairs + 12) ≤ length out.old }
-    ensures { FilePromise (parts shape note.now table.now pairs) out.old result out.new }
-{
-    let start = note.len();
-    let size = start + table.len() + (trailer::PAIR * (shape.pairs as usize) + trailer::SIZE);
-    octets::copy(note, out);
-    fill(&mut out[start..size], table, shape, pairs);
-    Written::Done(size)
-}
-
-// Whether parts of these sizes, one after the other, fit into so much room. No sum of them is taken, which could be too large.
-pub(crate) fn fit(note: usize, table: usize, end: usize, room: usize) -> bool
-    ensures { result ≡ leb (note + table + end) room }
-{
-    if room < note {
-        return false;
-    }
-    if room - note < table {
-        return false;
-    }
-    end <= room - note - table
+    let end = trailer::PAIR * (body.shape.pairs as usize) + trailer::SIZE;
+    note.checked_add(body.table.len())?
+        .checked_add(end)
+        .filter(|size| *size <= room)
 }

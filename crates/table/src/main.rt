@@ -1,54 +1,25 @@
 // Prints the monitor of the rule file on standard input (document 01, "The printed monitor").
 #![tactic(auto)]
 
-ghost use Rattle.std.specs.Io.{ReadsAtMost};
-
-use rule::Written;
 use std::io::{self, Read};
 
-// Reads until the buffer is full or the input ends, and answers how many bytes came.
-fn read_full(input: &mut impl Read, buffer: &mut [u8]) -> io::Result<usize>
-    ensures { ReadsAtMost result buffer.new }
-{
-    let mut done = 0;
-    while done < buffer.len() {
-        let some = input.read(&mut buffer[done..])?;
-        if some == 0 {
-            break;
-        }
-        done += some;
-    }
-    Ok(done)
-}
+// A file of so many bytes is too long whatever follows.
+const TOO_LONG: usize = 3213;
 
-// Reads once, and answers whether anything came.
-fn pass_some(input: &mut impl Read) -> io::Result<bool> {
-    let mut rest = [0u8; 65536];
-    Ok(input.read(&mut rest)? > 0)
-}
-
-// Reads on to the end of the input, so that nobody who writes it is stopped half way. A proved loop has to end,
-// and nothing says that an input does: the turns are counted up to a number that no run reaches.
-fn pass_rest(input: &mut impl Read) -> io::Result<()> {
-    for _ in 0..u64::MAX {
-        if !pass_some(input)? {
-            break;
-        }
-    }
-    Ok(())
-}
-
-// A file of 3,213 bytes is too long whatever follows.
+// A file that is too long is read to its end, so that nobody who writes it is stopped half way.
 fn main(rt: HostRuntime) -> io::Result<()> {
     let mut input = rt.stdin();
-    let mut file = [0u8; 3213];
-    let length = read_full(&mut input, &mut file)?;
-    if length == 3213 {
-        pass_rest(&mut input)?;
+    let mut file = [0u8; TOO_LONG];
+    let some = io::copy(
+        &mut input.by_ref().take(TOO_LONG as u64),
+        &mut &mut file[..],
+    )?;
+    let length = TOO_LONG.min(some as usize);
+    if length == TOO_LONG {
+        io::copy(&mut input, &mut io::sink())?;
     }
     let mut out = [0u8; printed::TEXT_MAX];
-    let written = printed::print(&file[..length], &mut out);
-    if let Written::Done(size) = written {
+    if let Ok(size) = printed::print(&file[..length], &mut out) {
         rt.write_all(&out[..size])?;
     }
     Ok(())

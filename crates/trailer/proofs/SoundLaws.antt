@@ -16,13 +16,13 @@ use Rattle.rule.proofs.RefusalLaws.{refuse_sound, first_sound}
 use Rattle.rule.specs.declared.Shape.{Shape}
 use Rattle.rule.specs.declared.Refusal.{Refusal}
 use Rattle.rule.specs.declared.Refusal.TheVariants.{Class, Range, Distance}
-use Rattle.rule.specs.declared.Verdict.TheVariants.{Sound}
 use Rattle.trailer.specs.Layout.{pairs_back, table_back}
 use Rattle.trailer.specs.Conditions.{framed, classed, ranged, placed, head_conditions}
 use Rattle.trailer.specs.declared.Trailer.{Trailer}
+use Rattle.std.specs.Prelude.{Ok}
 
 -- a condition that is refused where its test fails
-pub passed : (r : Refusal) {b : Bool} {A : Type 0} → Says b A → (refuse_if (not b) r ≡ Sound) ↔ A
+pub passed : (r : Refusal) {b : Bool} {A : Type 0} → Says b A → (refuse_if (not b) r ≡ Ok tt) ↔ A
 passed r {b} {A} s = (
   λ e. s.0 (not-false b ((refuse_sound (not b) r).0 e)),
   λ x. rw (s.1 x),
@@ -78,7 +78,7 @@ pub record Headed (t : Trailer) (size : ℕ) : Type 0 where
   pub ranged : Ranged t.shape
   pub placed : Placed t size
 
-pub headed_sound : (t : Trailer) (size : ℕ) → first_of (head_conditions t size) ≡ Sound → Headed t size
+pub headed_sound : (t : Trailer) (size : ℕ) → first_of (head_conditions t size) ≡ Ok tt → Headed t size
 headed_sound t size e =
     let a = (first_sound _ _).0 e in
     let b = (first_sound _ _).0 a.1 in

@@ -5,9 +5,9 @@ use Rattle.rule.specs.Range.{rule_limits, most_pairs, last_mode, longest_note, b
 use Rattle.rule.specs.Refusals.{refuse_if}
 use Rattle.rule.specs.declared.Shape.{Shape}
 use Rattle.rule.specs.declared.Refusal.TheVariants.{Frame, Class, Range, Distance}
-use Rattle.rule.specs.declared.Verdict.{Verdict}
 use Rattle.trailer.specs.Layout.{trailer_size, longest_file, pairs_back, table_back}
 use Rattle.trailer.specs.declared.Trailer.{Trailer}
+use Rattle.rule.specs.Verdict.{Verdict}
 
 -- 1: under 12 or over 3,212 bytes, or bytes 10-11 of the trailer wrong
 unfoldable pub framed : List ℕ → Bool

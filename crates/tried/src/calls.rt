@@ -1,39 +1,24 @@
 // The calls: on a rule file, on a rule by value, on a book, on a sheet.
-ghost use Rattle.std.specs.Prelude.{◌≡◌, ◌≤◌, length};
+ghost use Rattle.std.specs.Prelude.{◌≤◌, length};
 
-use crate::script::{part, wide};
 use crate::{runs, said};
-use check::same;
-use rule::{EventNo, Pair, Rule, Shape, StateNo, Verdict, Written};
+use rule::{EventNo, Pair, Refusal, Rule, Shape, StateNo};
 use std::io;
 
 // Reads a rule file, and where it is sound writes its rule again. A file that is the same is not printed.
 fn read(rt: &impl Print, file: &[u8]) -> io::Result<()> {
-    let reading = rulefile::read(file);
-    let verdict = reading.verdict;
-    if let Verdict::Refused(refusal) = verdict {
-        return said::refused(rt, refusal);
-    }
+    let rule = match rulefile::read(file) {
+        Ok(rule) => rule,
+        Err(refusal) => return said::refused(rt, refusal),
+    };
     let mut out = [171u8; 3300];
-    said::written(rt, rulefile::write(reading.rule, &mut out))?;
-    if same(part(&out, 0, file.len()), file) {
-        said::say(rt, b" same")?;
-        said::bytes(rt, part(&out, file.len(), 3300))
-    } else {
-        said::bytes(rt, &out)
-    }
-}
-
-fn shape_of(bytes: &[u8]) -> Shape
-    requires { length bytes.now ≡ 128 }
-{
-    Shape {
-        class: bytes[0],
-        states: bytes[1],
-        events: bytes[2],
-        pairs: bytes[3],
-        initial: StateNo(bytes[4]),
-        mode: 0,
+    said::written(rt, rulefile::write(rule, &mut out))?;
+    match out.strip_prefix(file) {
+        Some(rest) => {
+            print!(rt; " same")?;
+            said::bytes(rt, rest)
+        }
+        None => said::bytes(rt, &out),
     }
 }
 
@@ -49,20 +34,25 @@ fn pair_of(bytes: &[u8]) -> Pair
 
 // A rule by value: class, N, K, m, initial state; the note's length in two bytes; R and P of pair 0 and of pair 1; sixteen bytes of
 // the table; the note.
-fn rule_of(bytes: &[u8]) -> Rule
-    requires { length bytes.now ≡ 128 }
-{
-    let first = pair_of(&bytes[7..]);
-    let second = pair_of(&bytes[23..]);
-    let none = Pair { r: 0, p: 0 };
-    let pairs = [first, second, none, none, none, none, none, none];
+fn rule_of(bytes: [u8; 128]) -> Rule {
+    let mut pairs = [Pair { r: 0, p: 0 }; 8];
+    pairs[0] = pair_of(&bytes[7..]);
+    pairs[1] = pair_of(&bytes[23..]);
     let mut table = [0u8; 2048];
-    octets::copy(&bytes[39..55], &mut table);
+    table[..16].copy_from_slice(&bytes[39..55]);
     let mut note = [0u8; 1024];
-    octets::copy(&bytes[55..], &mut note);
+    note[..73].copy_from_slice(&bytes[55..]);
+    let [class, states, events, count, initial, low, high, ..] = bytes;
     Rule {
-        shape: shape_of(bytes),
-        length: octets::number(&bytes[5..7]) as usize,
+        shape: Shape {
+            class,
+            states,
+            events,
+            pairs: count,
+            initial: StateNo(initial),
+            mode: 0,
+        },
+        length: u16::from_le_bytes([low, high]) as usize,
         note,
         table,
         pairs,
@@ -70,97 +60,60 @@ fn rule_of(bytes: &[u8]) -> Rule
 }
 
 // Writes a rule by value.
-fn write(bytes: &[u8], out: &mut [u8]) -> Written {
+fn write(bytes: &[u8], out: &mut [u8]) -> Result<usize, Refusal> {
     let mut whole = [0u8; 128];
     octets::copy(bytes, &mut whole);
-    rulefile::write(rule_of(&whole), out)
+    rulefile::write(rule_of(whole), out)
 }
 
-// The calls that write to an output.
-fn put(rt: &impl Print, command: u8, bytes: &[u8], out: &mut [u8]) -> io::Result<bool> {
-    if command == b'w' {
-        let answer = write(bytes, out);
-        said::put(rt, answer, out)?;
-        return Ok(true);
-    }
-    if command == b'm' {
-        let answer = making::make(bytes, out);
-        said::put(rt, answer, out)?;
-        return Ok(true);
-    }
-    Ok(false)
+// A call that writes to an output of so many bytes, and the output.
+fn put<F>(rt: &impl Print, room: u8, call: F) -> io::Result<()>
+where
+    F: FnOnce(&mut [u8]) -> Result<usize, Refusal>,
+    requires { F.IsAlwaysCallable call }
+{
+    let mut whole = [171u8; 255];
+    let out = &mut whole[..room as usize];
+    said::written(rt, call(out))?;
+    said::bytes(rt, out)
 }
 
-// Adds a rule file to a book.
-fn add(rt: &impl Print, book: &[u8], number: u8, rule: &[u8], out: &mut [u8]) -> io::Result<()> {
-    let answer = book::add(book, number, rule, out);
-    said::put(rt, answer, out)
+// Looks a rule up in the job's book and the office's.
+fn find(rt: &impl Print, job: &[u8], office: &[u8], number: u8, age: u8) -> io::Result<()> {
+    said::lookup(rt, book::look(job, office, number, age as u16))?;
+    said::bytes(rt, book::find(job, office, number, age as u16))
 }
 
-// The calls on a book and what stands behind it from a place on: looks up in it and in the office's book, adds a rule file to it.
-fn books(
-    rt: &impl Print,
-    command: u8,
-    first: u8,
-    second: u8,
-    place: u8,
-    bytes: &[u8],
-) -> io::Result<bool> {
-    let split = wide(place);
-    if bytes.len() < split {
-        return Ok(false);
-    }
-    let book = part(bytes, 0, split);
-    let rest = part(bytes, split, bytes.len());
-    if command == b'f' {
-        said::lookup(rt, book::look(book, rest, first, second as u16))?;
-        said::bytes(rt, book::find(book, rest, first, second as u16))?;
-        return Ok(true);
-    }
-    if command == b'a' {
-        let mut whole = [171u8; 255];
-        let out: &mut [u8] = &mut whole;
-        let room = wide(first);
-        add(rt, book, second, rest, &mut out[0..room])?;
-        return Ok(true);
-    }
-    Ok(false)
-}
-
-// Asks why an event is answered as it is in a state.
-fn ask(rt: &impl Print, file: &[u8], state: u8, event: u8, out: &mut [u8]) -> io::Result<()> {
+// Asks why an event is answered as it is in a state. As `put`, with another answer: a function for both would take how to say it, and is no plainer.
+fn ask(rt: &impl Print, file: &[u8], state: u8, event: u8, room: u8) -> io::Result<()> {
+    let mut whole = [171u8; 255];
+    let out = &mut whole[..room as usize];
     said::ground(rt, why::why(file, StateNo(state), EventNo(event), out))?;
     said::bytes(rt, out)
 }
 
-// A command by its letter. Answers whether there is one with so many numbers.
+// A command by its letter. Answers whether there is one with so many numbers. The letters of events are told apart in `runs::event`, where their buffers are
+// made once.
 pub(crate) fn call(rt: &impl Print, command: u8, numbers: &[u8], bytes: &[u8]) -> io::Result<bool> {
-    match command {
-        b'e' | b'v' | b'l' => return runs::event(rt, command, bytes, numbers),
-        _ => {}
-    }
-    if numbers.len() == 1 {
-        let mut whole = [171u8; 255];
-        let out: &mut [u8] = &mut whole;
-        let room = wide(numbers[0]);
-        return put(rt, command, bytes, &mut out[0..room]);
-    }
-    if numbers.len() == 3 {
-        if command == b'y' {
-            let mut whole = [171u8; 255];
-            let out: &mut [u8] = &mut whole;
-            let room = wide(numbers[0]);
-            ask(rt, bytes, numbers[1], numbers[2], &mut out[0..room])?;
-            return Ok(true);
+    match (command, numbers) {
+        (b'r', []) => read(rt, bytes)?,
+        (b's', []) => runs::start(rt, bytes)?,
+        (b'w', [room]) => put(rt, *room, |out| write(bytes, out))?,
+        (b'm', [room]) => put(rt, *room, |out| making::make(bytes, out))?,
+        (b'y', [room, state, event]) => ask(rt, bytes, *state, *event, *room)?,
+        (b'f', [number, age, place]) => {
+            let Some((job, office)) = bytes.split_at_checked(*place as usize) else {
+                return Ok(false);
+            };
+            find(rt, job, office, *number, *age)?;
         }
-        return books(rt, command, numbers[0], numbers[1], numbers[2], bytes);
-    }
-    if numbers.len() != 0 {
-        return Ok(false);
-    }
-    match command {
-        b'r' => read(rt, bytes)?,
-        b's' => runs::start(rt, bytes)?,
+        (b'a', [room, number, place]) => {
+            let Some((book, rule)) = bytes.split_at_checked(*place as usize) else {
+                return Ok(false);
+            };
+            put(rt, *room, |out| book::add(book, *number, rule, out))?;
+        }
+        (b'e' | b'v' | b'l', _) => return runs::event(rt, command, bytes, numbers),
         _ => return Ok(false),
     }
     Ok(true)

@@ -2,107 +2,98 @@
 // written. The file `stdout` has what document 01 says of each case.
 #![tactic(auto)]
 
-ghost use Rattle.std.specs.Io.{ReadsAtMost};
-
 mod calls;
 mod runs;
 mod said;
 mod script;
 
-use said::say;
-use script::{changed, find, listed, part};
+use arrayvec::ArrayVec;
+use script::{Bytes, changed, cut, listed};
 use std::io::{self, Read};
 
-// A command on the bytes of some list lines, with those bytes changed that the changes name. Answers whether all of it is clear.
-fn obey(
-    rt: &impl Print,
+// A case: its name, the letter of its command, the numbers and the changes.
+#[derive(Clone, Copy)]
+struct Case<'a> {
+    name: &'a [u8],
     command: u8,
-    numbers: &[u8],
-    lines: &[u8],
-    changes: &[u8],
-) -> io::Result<bool> {
-    let mut list = [0u8; 64];
-    let count = listed(numbers, &mut list, 0);
-    if find(lines, b'@', 0) < lines.len() {
-        return Ok(false);
-    }
-    let mut bytes = [0u8; 3300];
-    let size = listed(lines, &mut bytes, 0);
-    if count <= 64 && changed(changes, &mut bytes, size) {
-        return calls::call(rt, command, part(&list, 0, count), part(&bytes, 0, size));
-    }
-    Ok(false)
+    numbers: &'a [u8],
+    changes: &'a [u8],
 }
 
-// A line with a case: a name, a colon, a space, the letter of a command, its numbers, its changes.
-fn case(rt: &impl Print, line: &[u8], lines: &[u8]) -> io::Result<bool> {
-    let colon = find(line, b':', 0);
-    if line.len() - colon < 3 {
+// A line with a case: a name, a colon, a space, a letter, numbers, changes.
+fn case_of(line: &[u8]) -> Option<Case<'_>> {
+    let (name, rest) = cut(line, |byte| byte == b':');
+    let [b':', b' ', command, rest @ ..] = rest else {
+        return None;
+    };
+    let (numbers, changes) = cut(rest, |byte| byte == b'@');
+    Some(Case {
+        name,
+        command: *command,
+        numbers,
+        changes,
+    })
+}
+
+// The command of a case, on the bytes at hand with those changed that the changes name. Answers whether all of it is clear.
+fn obey(rt: &impl Print, case: Case<'_>, at_hand: &Bytes) -> io::Result<bool> {
+    let mut numbers = ArrayVec::<u8, 64>::new();
+    let mut bytes = at_hand.clone()?;
+    if listed(case.numbers, &mut numbers).is_none() || changed(case.changes, &mut bytes).is_none() {
         return Ok(false);
     }
-    if line[colon + 1] != b' ' {
+    calls::call(rt, case.command, &numbers, &bytes)
+}
+
+// A line with a case, and the bytes at hand where these are clear. Answers whether all of it is clear.
+fn attempt(rt: &impl Print, line: &[u8], at_hand: Option<&Bytes>) -> io::Result<bool> {
+    let Some(case) = case_of(line) else {
         return Ok(false);
-    }
-    let end = find(line, b'@', colon + 3);
-    say(rt, &line[0..colon + 1])?;
-    let clear = obey(
-        rt,
-        line[colon + 2],
-        &line[colon + 3..end],
-        lines,
-        &line[end..],
-    )?;
-    say(rt, b"\n")?;
+    };
+    rt.write_all(case.name)?;
+    print!(rt; ":")?;
+    let clear = match at_hand {
+        Some(bytes) => obey(rt, case, bytes)?,
+        None => false,
+    };
+    println!(rt)?;
     Ok(clear)
 }
 
-// The lines of a script. The last list lines that stand together lie from `start` to `end`.
-fn follow(rt: &impl Print, script: &[u8]) -> io::Result<()> {
-    let mut start = 0;
-    let mut end = 0;
-    let mut count: usize = 0;
-    let mut at = 0;
-    while at < script.len() {
-        let stop = find(script, b'\n', at);
-        count += 1;
-        match script[at] {
-            b' ' => {
-                if at != end {
-                    start = at;
-                }
-                end = stop + 1;
-            }
-            b'#' | b'\n' => {}
-            _ => {
-                if !case(rt, &script[at..stop], part(script, start, end))? {
-                    said::unclear(rt, count as u64)?;
-                }
-            }
-        }
-        at = stop + 1;
-    }
-    Ok(())
+// Some bytes with the numbers of a list line.
+fn more(line: &[u8], mut bytes: Bytes) -> Option<Bytes> {
+    listed(line, &mut bytes)?;
+    Some(bytes)
 }
 
-// Reads until the buffer is full or the input ends, and answers how many bytes came.
-fn read_full(input: &mut impl Read, buffer: &mut [u8]) -> io::Result<usize>
-    ensures { ReadsAtMost result buffer.new }
-{
-    let mut done = 0;
-    while done < buffer.len() {
-        let some = input.read(&mut buffer[done..])?;
-        if some == 0 {
-            break;
+// The lines of a script. List lines that stand together have the bytes at hand for the cases below them.
+fn follow(rt: &impl Print, script: &[u8]) -> io::Result<()> {
+    let mut at_hand = Some(Bytes::new());
+    let mut listing = false;
+    for (i, line) in script.split(|byte| *byte == b'\n').enumerate() {
+        match line {
+            [] | [b'#', ..] => {}
+            [b' ', ..] => {
+                if !listing {
+                    at_hand = Some(Bytes::new());
+                }
+                at_hand = at_hand.and_then(|bytes| more(line, bytes));
+            }
+            _ => {
+                if !attempt(rt, line, at_hand.as_ref())? {
+                    said::unclear(rt, i + 1)?;
+                }
+            }
         }
-        done += some;
+        listing = line.starts_with(b" ");
     }
-    Ok(done)
+    Ok(())
 }
 
 // A script that fills the whole buffer may have been cut.
 fn main(rt: HostRuntime) -> io::Result<()> {
     let mut script = [0u8; 32768];
-    let length = read_full(&mut rt.stdin(), &mut script)?;
+    let length = io::copy(&mut rt.stdin().take(32768), &mut &mut script[..])? as usize;
     if length < 32768 {
         follow(&rt, &script[..length])
     } else {

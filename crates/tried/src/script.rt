@@ -1,124 +1,61 @@
 // The lines of a script, and the numbers in them.
-ghost use Rattle.std.specs.Prelude.{◌≤◌, length};
+ghost use Rattle.std.specs.Prelude.{◌≤◌, length, IfSome};
 
-// Stands for a size where a text is not what it has to be: no buffer is so long.
-pub(crate) const UNCLEAR: usize = usize::MAX;
+use arrayvec::ArrayVec;
+use std::str::FromStr;
 
-// A number in a text, and where it ends.
-#[derive(Clone, Copy)]
-struct Numeral {
-    value: usize,
-    end: usize,
-}
+// The bytes that a case is tried on.
+pub(crate) type Bytes = ArrayVec<u8, 3300>;
 
-pub(crate) fn wide(byte: u8) -> usize
-    ensures { result ≤ 255 }
+// A text up to the first byte that ends it, and the rest from that byte on.
+pub(crate) fn cut<F: Fn(u8) -> bool + Drop>(text: &[u8], ends: F) -> (&[u8], &[u8])
+    requires { F.IsAlwaysCallable ends }
+    ensures { length result.1.now ≤ length text.now }
 {
-    byte as usize
+    let end = text.iter().position(|b| ends(*b)).unwrap_or(text.len());
+    text.split_at(end)
 }
 
-// The bytes from one place to another, or all where these do not lie within them.
-pub(crate) fn part(bytes: &[u8], from: usize, to: usize) -> &[u8] {
-    if from <= to {
-        if to <= bytes.len() {
-            return &bytes[from..to];
-        }
-    }
-    bytes
-}
-
-// The first place of a byte from a place on, or the end.
-pub(crate) fn find(text: &[u8], byte: u8, from: usize) -> usize
-    requires { from ≤ length text.now }
-    ensures { (from ≤ result) × (result ≤ length text.now) }
+// The number that a text begins with, and what stands after it.
+fn number<N: FromStr>(text: &[u8]) -> Option<(N, &[u8])>
+where
+    N::Err: Drop,
+    ensures { IfSome result (λ p. length p.1.now ≤ length text.now) }
 {
-    let mut i = from;
-    while i < text.len() && text[i] != byte {
-        i += 1;
-    }
-    i
+    let (digits, rest) = cut(text, |b| !b.is_ascii_digit());
+    let number = str::from_utf8(digits).ok()?.parse().ok()?;
+    Some((number, rest))
 }
 
-// The number that starts at a place. One over 9,999 is cut, so that a digit stands after it.
-fn number(text: &[u8], from: usize) -> Numeral {
-    let mut value: usize = 0;
-    let mut end = from;
-    while end < text.len() {
-        let digit = std::num::wrapping_sub_u8(text[end], 48);
-        if 9 < digit {
-            break;
-        }
-        if 999 < value {
-            break;
-        }
-        value = value * 10 + digit as usize;
-        end += 1;
-    }
-    Numeral { value, end }
-}
-
-// Adds to a list of bytes what a number says after a mark: after a space the number, after `-` all that follow the last number up to this
-// one. After `@` the next is to stand at this place, and there has to be one. Answers the place after the last byte.
-fn add(mark: u8, last: usize, value: usize, list: &mut [u8], place: usize) -> usize {
-    if mark == b'@' {
-        return if last == UNCLEAR { UNCLEAR } else { value };
-    }
-    let mut byte = value;
-    if mark == b'-' {
-        if value <= last {
-            return UNCLEAR;
-        }
-        byte = last + 1;
-    } else if mark != b' ' {
-        return UNCLEAR;
-    }
-    let mut i = place;
-    while byte <= value {
-        if list.len() <= i {
-            return UNCLEAR;
-        }
-        if 255 < byte {
-            return UNCLEAR;
-        }
-        list[i] = byte as u8;
-        byte += 1;
-        i += 1;
-    }
-    i
-}
-
-// Adds the numbers of some lines to a list of bytes.
-pub(crate) fn listed(text: &[u8], list: &mut [u8], size: usize) -> usize {
-    let mut place = size;
-    let mut last = 255;
-    let mut at = 0;
-    while at < text.len() {
-        if text[at] == b'\n' {
-            at += 1;
-            continue;
-        }
-        let number = number(text, at + 1);
-        place = add(text[at], last, number.value, list, place);
-        if list.len() < place {
-            return UNCLEAR;
-        }
-        if number.end <= at + 1 {
-            return UNCLEAR;
-        }
-        last = if text[at] == b'@' {
-            UNCLEAR
-        } else {
-            number.value
+// Adds the numbers of a line to a list: after a space the number, after `-` all that follow the last number up to this one.
+pub(crate) fn listed<const N: usize>(line: &[u8], list: &mut ArrayVec<u8, N>) -> Option<()> {
+    let mut text = line;
+    while let Some((mark, after)) = text.split_first() {
+        let (number, rest) = number(after)?;
+        let first = match (*mark, list.last()) {
+            (b' ', _) => number,
+            (b'-', Some(last)) if *last < number => *last + 1,
+            _ => return None,
         };
-        at = number.end;
+        list.extend(first..=number).ok()?;
+        text = rest;
     }
-    if last == UNCLEAR { UNCLEAR } else { place }
+    Some(())
 }
 
-// Changes bytes of a list of so many, and none beyond its end.
-pub(crate) fn changed(changes: &[u8], list: &mut [u8], size: usize) -> bool {
-    if list.len() < size {
-        return false;
+// Changes bytes, and none beyond their end: after `@` stands a place, and then the numbers from there on, one at least.
+pub(crate) fn changed(changes: &[u8], bytes: &mut [u8]) -> Option<()> {
+    for change in changes.split(|b| *b == b'@').skip(1) {
+        let (place, numbers) = number::<usize>(change)?;
+        let mut list = Bytes::new();
+        listed(numbers, &mut list)?;
+        if list.is_empty() {
+            return None;
+        }
+        bytes
+            .get_mut(place..)?
+            .get_mut(..list.len())?
+            .copy_from_slice(&list);
     }
-    listed(changes, &mut list[0..size], size) <= size
+    Some(())
 }

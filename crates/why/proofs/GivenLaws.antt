@@ -17,8 +17,6 @@ use Rattle.rule.specs.declared.Operation.{Operation}
 use Rattle.rule.specs.declared.Operation.TheVariants.{Halt, Store, Dump}
 use Rattle.rule.specs.declared.Refusal.{Refusal}
 use Rattle.rule.specs.declared.Refusal.TheVariants.{Run, Code}
-use Rattle.rule.specs.declared.Written.{Written}
-use Rattle.rule.specs.declared.Written.TheVariants.{Done, Refused as Unwritten}
 use Rattle.rule.proofs.BoolLaws.{clash, le_says}
 use Rattle.rule.proofs.NumberLaws.{among_ahead}
 use Rattle.rule.proofs.PutLaws.{put_gives, put_ends}
@@ -30,7 +28,8 @@ use Rattle.rulefile.proofs.GivenLaws.{file_within, file_answers}
 use Rattle.why.specs.Given.{WhyRow, file, at_12, at_13, state_order, why_order, Asking}
 use Rattle.why.specs.Why.{why_verdict, ground_by, WhyPromise, ground_told}
 use Rattle.why.specs.declared.Ground.{Ground}
-use Rattle.why.specs.declared.Ground.TheVariants.{Refused}
+use Rattle.rule.specs.Verdict.{Written}
+use Rattle.std.specs.Prelude.{Ok, Err, Result}
 
 module _ (f : List ℕ) (s e : ℕ) where
   pub why_within : Within state_order (WhyRow f s e)
@@ -60,20 +59,20 @@ module _ (f : List ℕ) (s e : ℕ) where
 
 -- the answer tells what putting the way tells
 told_as : (w : Written) (o : Operation) (lost wanted : ℕ) → ground_told (ground_by w o lost wanted) ≡ written_told w
-told_as (Unwritten r) o lost wanted = refl
-told_as (Done n) Halt lost wanted = refl
-told_as (Done n) Store lost wanted = refl
-told_as (Done n) Dump lost wanted = refl
+told_as (Err r) o lost wanted = refl
+told_as (Ok n) Halt lost wanted = refl
+told_as (Ok n) Store lost wanted = refl
+told_as (Ok n) Dump lost wanted = refl
 
 -- and is refused where that is
-pub refused_as : (w : Written) (o : Operation) (lost wanted : ℕ) (x : Refusal) → (ground_by w o lost wanted ≡ Refused x) ↔ (w ≡ Unwritten x)
-refused_as (Unwritten r) o lost wanted x = (λ p. cc, λ p. cc)
-refused_as (Done n) Halt lost wanted x = (λ p. absurd (let z : ◌≡◌ {A = ℕ} 0 1 = cc in omega arith), λ p. absurd (let z : ◌≡◌ {A = ℕ} 0 1 = cc in omega arith))
-refused_as (Done n) Store lost wanted x = (λ p. absurd (let z : ◌≡◌ {A = ℕ} 0 1 = cc in omega arith), λ p. absurd (let z : ◌≡◌ {A = ℕ} 0 1 = cc in omega arith))
-refused_as (Done n) Dump lost wanted x = (λ p. absurd (let z : ◌≡◌ {A = ℕ} 0 1 = cc in omega arith), λ p. absurd (let z : ◌≡◌ {A = ℕ} 0 1 = cc in omega arith))
+pub refused_as : (w : Written) (o : Operation) (lost wanted : ℕ) (x : Refusal) → (ground_by w o lost wanted ≡ Err x) ↔ (w ≡ Err x)
+refused_as (Err r) o lost wanted x = (λ p. cc, λ p. cc)
+refused_as (Ok n) Halt lost wanted x = (λ p. absurd (let z : ◌≡◌ {A = ℕ} 0 1 = cc in omega arith), λ p. absurd (let z : ◌≡◌ {A = ℕ} 0 1 = cc in omega arith))
+refused_as (Ok n) Store lost wanted x = (λ p. absurd (let z : ◌≡◌ {A = ℕ} 0 1 = cc in omega arith), λ p. absurd (let z : ◌≡◌ {A = ℕ} 0 1 = cc in omega arith))
+refused_as (Ok n) Dump lost wanted x = (λ p. absurd (let z : ◌≡◌ {A = ℕ} 0 1 = cc in omega arith), λ p. absurd (let z : ◌≡◌ {A = ℕ} 0 1 = cc in omega arith))
 
-module _ {f : List ℕ} {s e : ℕ} {out : List ℕ} {g : Ground} {out' : List ℕ} (kept : WhyPromise f s e out g out') where
-  pub why_gives : (x : Refusal) → (g ≡ Refused x) ↔ Given (Asking f s e (length out)) x why_order
+module _ {f : List ℕ} {s e : ℕ} {out : List ℕ} {g : Result Ground Refusal} {out' : List ℕ} (kept : WhyPromise f s e out g out') where
+  pub why_gives : (x : Refusal) → (g ≡ Err x) ↔ Given (Asking f s e (length out)) x why_order
   why_gives x = rw kept.answer (Iff.trans (refused_as kept.written _ _ _ x) (put_gives (why_within f s e) refl (why_answers f s e) kept.put x))
 
   -- how asking ends

@@ -5,16 +5,17 @@ use mathlib.Core.List.{List}
 use Rattle.contracts.specs.Contract.{OneAnswer}
 use Rattle.rule.specs.Drawing.{Drawing}
 use Rattle.rule.specs.Operations.{operation_at}
-use Rattle.rule.specs.declared.Verdict.{Verdict}
-use Rattle.rule.specs.declared.Written.{Written}
 use Rattle.why.specs.Grounds.{lost_pair, wanted_pair}
 use Rattle.why.specs.Why.{ground_by, GroundPromise}
 use Rattle.why.specs.declared.Ground.{Ground}
 use Rattle.why.specs.contracts
 use Rattle.why.proofs
+use Rattle.rule.specs.Verdict.{Verdict, Written}
+use Rattle.rule.specs.declared.Refusal.{Refusal}
+use Rattle.std.specs.Prelude.{Result}
 
 -- the ground at a state, and the output, are one
-pub ground_one : {v : Verdict} {d : Drawing} {t : ℕ} {out : List ℕ} {g h : Ground} {out₁ out₂ : List ℕ}
+pub ground_one : {v : Verdict} {d : Drawing} {t : ℕ} {out : List ℕ} {g h : Result Ground Refusal} {out₁ out₂ : List ℕ}
     → GroundPromise v d t out g out₁ → GroundPromise v d t out h out₂ → (g ≡ h) × (out₁ ≡ out₂)
 ground_one {d = d} {t} x y =
     let w = x.put.answer ∙ sym y.put.answer in (

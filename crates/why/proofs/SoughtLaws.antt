@@ -14,8 +14,6 @@ use Rattle.rule.specs.Sets.{has}
 use Rattle.rule.specs.Reach.{target}
 use Rattle.rule.specs.Ways.{nearer_below, within, distance, way_by, way_into}
 use Rattle.rule.specs.declared.Refusal.TheVariants.{Room}
-use Rattle.rule.specs.declared.Verdict.TheVariants.{Sound}
-use Rattle.rule.specs.declared.Written.TheVariants.{Done, Refused}
 use Rattle.rule.proofs.BoolLaws.{clash}
 use Rattle.rule.proofs.PutLaws.{keeps_no_room, keeps_done}
 use Rattle.rule.proofs.SetLaws.{below_or}
@@ -23,6 +21,7 @@ use Rattle.rule.proofs.ShortestLaws.{FirstAt, near_first, way_into_length}
 use Rattle.why.specs.Steps.{steps_below, steps_within, followed}
 use Rattle.why.proofs.LoopLaws.{moved_in}
 use Rattle.why.proofs.StepLaws.{steps_length, followed_way}
+use Rattle.std.specs.Prelude.{Ok, Err}
 
 pub way_lent : (out : List ℕ) (m : ℕ) → m ≤ length out → m ≡ length (take m out)
 way_lent out m h = sym (length-take-le m out h)
@@ -82,12 +81,12 @@ module _ (table : List ℕ) (n k goal t : ℕ) where
           first = near_first (target table k) n k goal t reached
 
       module _ (f : not b ≡ false) (out : List ℕ) where
-        pub way_no_room : length out < moves → PutPromise Sound (way_into (target table k) n k goal t) out (Refused Room) out
+        pub way_no_room : length out < moves → PutPromise (Ok tt) (way_into (target table k) n k goal t) out (Err Room) out
         way_no_room h = keeps_no_room refl (rw (way_into_length (target table k) n k goal t, ← sought_is f) h)
 
         pub way_put : (w : List ℕ) → n ≤ 64 → t < n → ((i : ℕ) → get_or table i 0 < n) → moves ≤ length out
             → w ≡ followed (target table k) steps (length (take moves out)) t
-            → PutPromise Sound (way_into (target table k) n k goal t) out (Done moves) (w ++ drop moves out)
+            → PutPromise (Ok tt) (way_into (target table k) n k goal t) out (Ok moves) (w ++ drop moves out)
         unfolding way_into
         way_put w few h low room is =
             let d = distance (target table k) n k goal t in

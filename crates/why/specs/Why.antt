@@ -1,6 +1,6 @@
 -- What an answer says, and what asking why promises.
 -- Assumes nothing.
-use Rattle.std.specs.Prelude.{ℕ, ◌≡◌, List, [], ◌∷◌, ◌++◌, length, drop, leb}
+use Rattle.std.specs.Prelude.{ℕ, ◌≡◌, List, [], ◌∷◌, ◌++◌, length, drop, leb, Ok, Err, Result}
 use Rattle.rule.specs.Drawing.{Drawing, states, events, next}
 use Rattle.rule.specs.Given.{NoPair}
 use Rattle.rule.specs.Operations.{operation_at}
@@ -9,15 +9,14 @@ use Rattle.rule.specs.Refusals.{refuse_if, first_of, tell, told_of}
 use Rattle.rule.specs.declared.Told.{Told}
 use Rattle.rule.specs.declared.Operation.{Operation}
 use Rattle.rule.specs.declared.Operation.TheVariants.{Halt, Store, Dump}
+use Rattle.rule.specs.declared.Refusal.{Refusal}
 use Rattle.rule.specs.declared.Refusal.TheVariants.{Run, Code}
-use Rattle.rule.specs.declared.Verdict.{Verdict}
-use Rattle.rule.specs.declared.Written.{Written}
-use Rattle.rule.specs.declared.Written.TheVariants.{Done, Refused as Unwritten}
 use Rattle.rulefile.specs.Layout.{drawing_in}
 use Rattle.rulefile.specs.Reading.{verdict_on}
 use Rattle.why.specs.Grounds.{Unmet, Lost, HaltGround, StoreGround, lost_pair, wanted_pair, way_told}
 use Rattle.why.specs.declared.Ground.{Ground}
-use Rattle.why.specs.declared.Ground.TheVariants.{Halted, Held, Released, Refused}
+use Rattle.why.specs.declared.Ground.TheVariants.{Halted, Held, Released}
+use Rattle.rule.specs.Verdict.{Verdict, Written}
 
 -- an answer names an operation
 pub data Names : Ground → Operation → Type 0 where
@@ -37,25 +36,23 @@ why_verdict f s e =
     first_of (verdict_on f ∷ refuse_if (leb (states (drawing_in f)) s) Run ∷ refuse_if (leb (events (drawing_in f)) e) Code ∷ [])
 
 -- the answer, by what came of putting the way, the operation, the pair that is lost and the pair that is wanted
-abbrev pub ground_by : Written → Operation → (lost wanted : ℕ) → Ground
-ground_by (Unwritten r) o lost wanted = Refused r
-ground_by (Done n) Halt lost wanted = Halted lost
-ground_by (Done n) Store lost wanted = Held wanted n
-ground_by (Done n) Dump lost wanted = Released
+abbrev pub ground_by : Written → Operation → (lost wanted : ℕ) → Result Ground Refusal
+ground_by (Err r) o lost wanted = Err r
+ground_by (Ok n) Halt lost wanted = Ok (Halted lost)
+ground_by (Ok n) Store lost wanted = Ok (Held wanted n)
+ground_by (Ok n) Dump lost wanted = Ok Released
 
 -- judged at t: the way is put to the front of the output, and the answer names the operation and its ground
-pub record GroundPromise (v : Verdict) (d : Drawing) (t : ℕ) (out : List ℕ) (g : Ground) (out' : List ℕ) : Type 0 where
+pub record GroundPromise (v : Verdict) (d : Drawing) (t : ℕ) (out : List ℕ) (g : Result Ground Refusal) (out' : List ℕ) : Type 0 where
   pub written : Written
   pub put : PutPromise v (way_told d t) out written out'
   pub answer : g ≡ ground_by written (operation_at d t) (lost_pair d t) (wanted_pair d t)
 
 -- the promise: all is judged at the state after the event
-abbrev pub WhyPromise : List ℕ → (s e : ℕ) → (out : List ℕ) → Ground → (out' : List ℕ) → Type 0
+abbrev pub WhyPromise : List ℕ → (s e : ℕ) → (out : List ℕ) → Result Ground Refusal → (out' : List ℕ) → Type 0
 WhyPromise f s e out g out' = GroundPromise (why_verdict f s e) (drawing_in f) (next (drawing_in f) s e) out g out'
 
 -- the number and the places of an answer
-abbrev pub ground_told : Ground → Told
-ground_told (Halted i) = tell 0 0 0
-ground_told (Held i n) = tell 0 0 0
-ground_told Released = tell 0 0 0
-ground_told (Refused r) = told_of r
+abbrev pub ground_told : Result Ground Refusal → Told
+ground_told (Ok g) = tell 0 0 0
+ground_told (Err r) = told_of r

@@ -1,20 +1,19 @@
 // The ground of the operation of a move into a state.
-ghost use Rattle.std.specs.Prelude.{◌≡◌, ℕ, ◌≤◌, ◌<◌, [], get_or, take};
+ghost use Rattle.std.specs.Prelude.{◌≡◌, ℕ, ◌≤◌, ◌<◌, length, get_or, Ok};
 ghost use Rattle.rule.specs.Acceptance.{meets_pair};
-ghost use Rattle.rule.specs.Drawing.{body};
+ghost use Rattle.rule.specs.Drawing.{drawing_of};
 ghost use Rattle.rule.specs.Operations.{operation_at};
 ghost use Rattle.rule.specs.WellDrawn.{WellDrawn};
 ghost use Rattle.rule.specs.declared.Operation.TheVariants.{Store};
-ghost use Rattle.rule.specs.declared.Verdict.TheVariants.{Sound};
 ghost use Rattle.why.specs.Grounds.{lost_among, unmet_among, wanted_pair, goal_set};
 ghost use Rattle.why.specs.Steps.{operation_by};
 ghost use Rattle.why.specs.Why.{GroundPromise};
 
 use crate::{Ground, ways};
 use operations::{good_states, operation, stops, value};
-use reach::reached;
+use reach::Moves;
 use reach::sets::contains;
-use rule::{Operation, Pair, Rule, Shape, StateNo, Written};
+use rule::{Body, Operation, Pair, Refusal, Rule, StateNo};
 
 // Whether a pair is met.
 fn met(pair: Pair, t: StateNo) -> bool
@@ -23,100 +22,102 @@ fn met(pair: Pair, t: StateNo) -> bool
     contains(pair.r, t) | contains(pair.p, t)
 }
 
-// The lowest of the first `count` pairs by which t, which reaches the set `reached`, is stopping, or `count`.
-fn lost(pairs: [Pair; 8], count: u8, reached: u64, t: StateNo) -> u8
-    requires { count ≤ 8 }
-    ensures { result ≡ lost_among (take count pairs) count reached t.0 }
-{
-    for i in 0..count {
-        if stops(pairs[i as usize], reached, t) {
-            return i;
+// A state t of an accepted rule whose pairs are all used: what an answer is judged at. No public type: what is asked for here no caller from outside can show.
+#[derive(Clone, Copy)]
+pub(crate) struct Judged<'a> {
+    pub(crate) body: Body<'a>,
+    pub(crate) t: StateNo,
+    ghost well: { WellDrawn (drawing_of body) },
+    ghost within: { t.0 < body.shape.states },
+    ghost closed: { (i : ℕ) → get_or body.table.now i 0 < body.shape.states },
+    ghost used: { length body.pairs.now ≡ body.shape.pairs },
+    ghost few: { body.shape.pairs ≤ 8 },
+}
+
+impl<'a> Judged<'a> {
+    // The lowest pair by which t, which reaches the set `reached`, is stopping, or m: in joint mode m is an answer, and no Option.
+    fn lost(self, reached: u64) -> u8
+        ensures { result ≡ lost_among self.entry.body.pairs.now self.entry.body.shape.pairs reached self.entry.t.0 }
+    {
+        let body = self.body;
+        let t = self.t;
+        match body.pairs.iter().position(|pair| stops(*pair, reached, t)) {
+            Some(i) => i as u8,
+            None => body.shape.pairs,
         }
     }
-    count
-}
 
-// The lowest of the first `count` pairs that is not met, or `count`.
-fn unmet(pairs: [Pair; 8], count: u8, t: StateNo) -> u8
-    requires { count ≤ 8 }
-    ensures { result ≡ unmet_among (take count pairs) count t.0 }
-{
-    for at in 0..count {
-        if !met(pairs[at as usize], t) {
-            return at;
+    // The lowest pair that is not met, or m.
+    fn unmet(self) -> u8
+        ensures { result ≡ unmet_among self.entry.body.pairs.now self.entry.body.shape.pairs self.entry.t.0 }
+    {
+        let body = self.body;
+        let t = self.t;
+        match body.pairs.iter().position(|pair| !met(*pair, t)) {
+            Some(at) => at as u8,
+            None => body.shape.pairs,
         }
     }
-    count
-}
 
-// What a store waits for: the lowest pair not yet met, and in joint mode all pairs, which are named `m`.
-fn wanted(shape: Shape, pairs: [Pair; 8], t: StateNo) -> u8
-    requires { shape.pairs ≤ 8 }
-    ensures { result ≡ wanted_pair (body shape [] pairs) t.0 }
-{
-    if shape.mode == Rule::JOINT {
-        return shape.pairs;
+    // What a store waits for: the lowest pair not yet met, and in joint mode all pairs, which are named `m`.
+    fn wanted(self) -> u8
+        ensures { result ≡ wanted_pair (drawing_of self.entry.body) self.entry.t.0 }
+    {
+        let shape = self.body.shape;
+        if shape.mode == Rule::JOINT {
+            return shape.pairs;
+        }
+        self.unmet()
     }
-    unmet(pairs, shape.pairs, t)
-}
 
-// The states where it is met.
-fn goal_set(shape: Shape, pairs: [Pair; 8], i: u8) -> u64
-    requires { (shape.pairs ≤ 8) × ((shape.mode ≡ 1 → ⊥) → i < shape.pairs) }
-    ensures { result ≡ goal_set (body shape [] pairs) i }
-{
-    if shape.mode == Rule::JOINT {
-        return good_states(pairs, shape.pairs);
+    // The states where it is met.
+    fn goal_set(self, i: u8) -> u64
+        requires { (self.body.shape.mode ≡ 1 → ⊥) → i < self.body.shape.pairs }
+        ensures { result ≡ goal_set (drawing_of self.entry.body) i }
+    {
+        let body = self.body;
+        if body.shape.mode == Rule::JOINT {
+            return good_states(body.pairs);
+        }
+        let pair = body.pairs[i as usize];
+        pair.r | pair.p
     }
-    let pair = pairs[i as usize];
-    pair.r | pair.p
-}
 
-// Held: what is waited for, and the way that meets it, put to the front of the output.
-fn held(out: &mut [u8], shape: Shape, table: &[u8], pairs: [Pair; 8], t: StateNo) -> Ground
-    requires { WellDrawn (body shape table.now pairs) × (t.0 < shape.states) × ((i : ℕ) → get_or table.now i 0 < shape.states) × (shape.pairs ≤ 8)
-        × (operation_at (body shape table.now pairs) t.0 ≡ Store) }
-    ensures { GroundPromise Sound (body shape table.now pairs) t.0 out.old result out.new }
-{
-    let i = wanted(shape, pairs, t);
-    let goal = goal_set(shape, pairs, i);
-    let written = ways::put(out, table, shape.states, shape.events, goal, t);
-    match written {
-        Written::Done(n) => Ground::Held(i, n),
-        Written::Refused(refusal) => Ground::Refused(refusal),
+    // Held: what is waited for, and the way that meets it, put to the front of the output.
+    fn held(self, out: &mut [u8]) -> Result<Ground, Refusal>
+        requires { operation_at (drawing_of self.body) self.t.0 ≡ Store }
+        ensures { GroundPromise (Ok tt) (drawing_of self.entry.body) self.entry.t.0 out.old result out.new }
+    {
+        let i = self.wanted();
+        let goal = self.goal_set(i);
+        let n = ways::put(out, Moves::of(self.body), goal, self.t)?;
+        Ok(Ground::Held(i, n))
     }
-}
 
-// The operation of a move into t, which reaches the set `reached`. In joint mode all pairs together are one.
-fn operation_at(shape: Shape, pairs: [Pair; 8], reached: u64, t: StateNo) -> Operation
-    ensures { result ≡ operation_by shape (take shape.pairs pairs) reached t.0 }
-{
-    if shape.mode == Rule::JOINT {
-        let all = Pair {
-            r: good_states(pairs, shape.pairs),
-            p: 0,
-        };
-        return value(all, reached, t);
+    // The operation of a move into t, which reaches the set `reached`. In joint mode all pairs together are one.
+    fn operation(self, reached: u64) -> Operation
+        ensures { result ≡ operation_by self.entry.body.shape self.entry.body.pairs.now reached self.entry.t.0 }
+    {
+        let body = self.body;
+        if body.shape.mode == Rule::JOINT {
+            let all = Pair {
+                r: good_states(body.pairs),
+                p: 0,
+            };
+            return value(all, reached, self.t);
+        }
+        operation(body.pairs, reached, self.t)
     }
-    operation(pairs, shape.pairs, reached, t)
-}
 
-// The operation of a move into t, and its ground.
-pub(crate) fn judge(
-    out: &mut [u8],
-    shape: Shape,
-    table: &[u8],
-    pairs: [Pair; 8],
-    t: StateNo,
-) -> Ground
-    requires { WellDrawn (body shape table.now pairs) × (t.0 < shape.states) × ((i : ℕ) → get_or table.now i 0 < shape.states) × (shape.pairs ≤ 8) }
-    ensures { GroundPromise Sound (body shape table.now pairs) t.0 out.old result out.new }
-{
-    let reach = reached(table, shape.states, shape.events, t);
-    let done = operation_at(shape, pairs, reach, t);
-    match done {
-        Operation::Halt => Ground::Halted(lost(pairs, shape.pairs, reach, t)),
-        Operation::Store => held(out, shape, table, pairs, t),
-        Operation::Dump => Ground::Released,
+    // The operation of a move into t, and its ground.
+    pub(crate) fn ground(self, out: &mut [u8]) -> Result<Ground, Refusal>
+        ensures { GroundPromise (Ok tt) (drawing_of self.entry.body) self.entry.t.0 out.old result out.new }
+    {
+        let reach = Moves::of(self.body).reached(self.t);
+        match self.operation(reach) {
+            Operation::Halt => Ok(Ground::Halted(self.lost(reach))),
+            Operation::Store => self.held(out),
+            Operation::Dump => Ok(Ground::Released),
+        }
     }
 }

@@ -1,86 +1,76 @@
 // The shortest way into a set of states, the lowest in event order among equals: backwards from the set, one event nearer a round.
-ghost use Rattle.std.specs.Prelude.{◌≡◌, ℕ, ◌≤◌, ◌<◌, length, get_or, replicate};
+ghost use Rattle.std.specs.Prelude.{◌≡◌, ℕ, ◌≤◌, ◌<◌, length, get_or, replicate, Ok};
 ghost use Rattle.rule.specs.Putting.{PutPromise};
 ghost use Rattle.rule.specs.Reach.{target};
 ghost use Rattle.rule.specs.Ways.{nearer_below, distance, way_into};
-ghost use Rattle.rule.specs.declared.Verdict.TheVariants.{Sound};
 ghost use Rattle.why.specs.Steps.{rows_of, steps_below, followed};
 
+use reach::Moves;
 use reach::sets::{contains, insert};
-use reach::{event_into, next, with_moves};
-use rule::{EventNo, Refusal, StateNo, Written};
+use rule::{EventNo, Refusal, StateNo};
 
-// Puts at each state the set of the states to which its moves lead: each row of the table is looked at once for it.
-fn fill_rows(table: &[u8], states: u8, events: u8, rows: &mut [u64])
-    requires { states ≤ length rows.old }
-    ensures { rows.new ≡ rows_of table.now events rows.old states }
+// Puts at each state the set of the states to which its moves lead: each row of the table is looked at once for it. Over the states: the number is asked for.
+fn fill_rows(moves: Moves, rows: &mut [u64])
+    requires { moves.states ≤ length rows.old }
+    ensures { rows.new ≡ rows_of moves.entry.table.now moves.entry.events rows.old moves.entry.states }
 {
-    for s in 0..states {
-        rows[s as usize] = with_moves(table, events, StateNo(s), 0);
+    for s in 0..moves.states {
+        rows[s as usize] = moves.with_moves(StateNo(s), 0);
     }
 }
 
 // The set with the states from which one event leads into it; the lowest such event of each new one goes into `steps`.
-fn nearer(table: &[u8], states: u8, events: u8, rows: &[u64], set: u64, steps: &mut [u8]) -> u64
-    requires { (states ≤ length steps.old) × (states ≤ 64) × (rows.now ≡ rows_of table.now events (replicate 64 0) states) }
-    ensures { (result ≡ nearer_below (target table.now events) events set states)
-        × (steps.new ≡ steps_below (target table.now events) events set steps.old states) }
+fn nearer(moves: Moves, rows: &[u64], set: u64, steps: &mut [u8]) -> u64
+    requires { (moves.states ≤ length steps.old) × (moves.states ≤ 64)
+        × (rows.now ≡ rows_of moves.table.now moves.events (replicate 64 0) moves.states) }
+    ensures { (result ≡ nearer_below (target moves.entry.table.now moves.entry.events) moves.entry.events set moves.entry.states)
+        × (steps.new ≡ steps_below (target moves.entry.table.now moves.entry.events) moves.entry.events set steps.old moves.entry.states) }
 {
     let mut out = set;
-    for s in 0..states {
-        if !contains(set, StateNo(s)) {
-            let row = rows[s as usize];
-            if set & row != 0 {
-                out = insert(out, StateNo(s));
-                steps[s as usize] = event_into(table, events, StateNo(s), set);
-            }
+    for s in 0..moves.states {
+        let row = rows[s as usize];
+        if !contains(set, StateNo(s)) && set & row != 0 {
+            out = insert(out, StateNo(s));
+            steps[s as usize] = moves.event_into(StateNo(s), set);
         }
     }
     out
 }
 
 // Follows the steps from t until the output is full.
-fn follow(table: &[u8], events: u8, t: StateNo, steps: &[u8], out: &mut [u8])
-    requires { ((i : ℕ) → get_or table.now i 0 < length steps.now) × (t.0 < length steps.now) }
-    ensures { out.new ≡ followed (target table.now events) steps.now (length out.old) t.0 }
+fn follow(moves: Moves, t: StateNo, steps: &[u8], out: &mut [u8])
+    requires { ((i : ℕ) → get_or moves.table.now i 0 < length steps.now) × (t.0 < length steps.now) }
+    ensures { out.new ≡ followed (target moves.entry.table.now moves.entry.events) steps.now (length out.old) t.0 }
 {
     let mut s = t;
-    let mut i = 0;
-    while i < out.len() {
-        let at = s.0 as usize;
-        let e = steps[at];
-        out[i] = e;
-        s = next(table, events, s, EventNo(e));
-        i += 1;
+    for step in out {
+        let e = steps[s.0 as usize];
+        *step = e;
+        s = moves.next(s, EventNo(e));
     }
 }
 
-// Puts the way from t into the goal to the front of the output: refusal 16.
-pub(crate) fn put(
-    out: &mut [u8],
-    table: &[u8],
-    states: u8,
-    events: u8,
-    goal: u64,
-    t: StateNo,
-) -> Written
-    requires { (states ≤ 64) × (t.0 < states) × ((i : ℕ) → get_or table.now i 0 < states)
-        × (distance (target table.now events) states events goal t.0 < states) }
-    ensures { PutPromise Sound (way_into (target table.now events) states events goal t.0) out.old result out.new }
+// Puts the way from t into the goal to the front of the output: refusal 16. Rows and steps are two arrays: one of pairs would take nearly twice the stack.
+pub(crate) fn put(out: &mut [u8], moves: Moves, goal: u64, t: StateNo) -> Result<usize, Refusal>
+    requires { (moves.states ≤ 64) × (t.0 < moves.states) × ((i : ℕ) → get_or moves.table.now i 0 < moves.states)
+        × (distance (target moves.table.now moves.events) moves.states moves.events goal t.0 < moves.states) }
+    ensures { PutPromise (Ok tt) (way_into (target moves.entry.table.now moves.entry.events) moves.entry.states moves.entry.events goal t.0)
+        out.old result out.new }
 {
     let mut rows = [0u64; 64];
-    fill_rows(table, states, events, &mut rows);
+    fill_rows(moves, &mut rows);
     let mut steps = [0u8; 64];
     let mut near = goal;
-    let mut moves = 0u8;
+    let mut rounds = 0u8;
+    // the rounds are counted: they end by what a round finds
     while !contains(near, t) {
-        near = nearer(table, states, events, &rows, near, &mut steps);
-        moves += 1;
+        near = nearer(moves, &rows, near, &mut steps);
+        rounds += 1;
     }
-    let size = moves as usize;
+    let size = rounds as usize;
     if out.len() < size {
-        return Written::Refused(Refusal::Room);
+        return Err(Refusal::Room);
     }
-    follow(table, events, t, &steps, &mut out[..size]);
-    Written::Done(size)
+    follow(moves, t, &steps, &mut out[..size]);
+    Ok(size)
 }

@@ -1,12 +1,8 @@
--- What `checks::all_below` keeps at each turn: all of the entries passed are below n. Assumes nothing.
-use mathlib.Core.Path.{◌≡◌}
-use Prim.Native.Nat.{◌-◌, ◌≤◌}
-use lib.ListN.{length, take}
-use Rattle.checks.specs.Checked.{all_below}
+-- What `checks::all_below` keeps at each turn: all of the entries passed are below n.
+-- Assumes nothing.
+use Rattle.std.proofs.Common.{◌≡◌, take, ltb}
+use Rattle.std.specs.List.{list_all}
 use Rattle.checks.proofs.all_below.Given as goal
 
-abbrev pub invariant-loop-i : goal.invariant-loop-i
-invariant-loop-i l = (l.i ≤ length l.table) × (l.all ≡ all_below l.n (take l.i l.table))
-
-abbrev pub decreases-loop-i : goal.decreases-loop-i
-decreases-loop-i l = length l.table - l.i
+abbrev pub invariant-loop-entry : goal.invariant-loop-entry
+invariant-loop-entry l = l.all ≡ list_all (λ x. ltb x l.n) (take l.entry-index l.table)

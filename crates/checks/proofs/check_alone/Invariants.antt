@@ -1,14 +1,9 @@
 -- What `checks::check_alone` keeps at each turn: the pairs passed are sound.
 -- Assumes nothing.
-use Prim.Native.Nat.{◌-◌, ◌≤◌}
-use mathlib.Core.Path.{◌≡◌}
-use Rattle.rule.specs.Drawing.{body}
+use Rattle.std.proofs.Common.{◌≡◌, Ok}
+use Rattle.rule.specs.Drawing.{drawing_of}
 use Rattle.rule.specs.Refusals.{first_below, stop_at}
-use Rattle.rule.specs.declared.Verdict.TheVariants.{Sound}
 use Rattle.checks.proofs.check_alone.Given as goal
 
 abbrev pub invariant-loop-i : goal.invariant-loop-i
-invariant-loop-i l = (l.i ≤ l.i-end) × (l.i-end ≡ l.shape.pairs) × (first_below (stop_at (body l.shape l.table l.pairs)) l.i ≡ Sound)
-
-abbrev pub decreases-loop-i : goal.decreases-loop-i
-decreases-loop-i l = l.i-end - l.i
+invariant-loop-i l = first_below (stop_at (drawing_of l.body)) l.i ≡ Ok tt

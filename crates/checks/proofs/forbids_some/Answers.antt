@@ -1,27 +1,15 @@
--- `checks::forbids_some` meets its contract: none of the pairs passed forbids the move.
+-- `checks::forbids_some` meets its contract: some pair forbids the move.
 -- Assumes nothing.
-use borrow.Author.Rules.{rules}
-use mathlib.Core.Path.{refl}
-use native.Mathlib.Omega.{arith}
-use lib.ListN.{take}
-use Rattle.checks.proofs.CheckLaws.{forbids_start, forbids_more, forbids_hit, forbids_all}
+use Rattle.std.proofs.Common.{rules, tests, ◌∙◌}
+use Rattle.std.proofs.lemmas.Iterator.{YieldsList-from_slice}
+use Rattle.std.proofs.lemmas.Iterator.Search.{any_from_yields_List}
+use Rattle.rule.specs.Classes.{forbids}
+use Rattle.checks.proofs.CheckLaws.{some_any}
 use Rattle.checks.proofs.forbids_some.Goals as goal
-
-pub loop-i-init : goal.loop-i-init
-loop-i-init c = (omega arith, refl, forbids_start _ c.args.s.0 c.args.t.0 (take c.args.shape.pairs c.args.pairs))
-
-pub returns-then-forbids : goal.returns-then-forbids
-returns-then-forbids c = search (rules, forbids_hit)
-
-pub loop-i-preserved : goal.loop-i-preserved
-loop-i-preserved c =
-    let l = c.loop-i in
-    let a = c.args in
-    let passed = forbids_more _ _ _ (take a.shape.pairs a.pairs) l.i l.invariant.2
-    c.pair_at.ensures c.forbids.ensures c.if-forbids.false in
-    (omega arith, search rules, passed)
 
 pub returns : goal.returns
 returns c =
-    let l = c.loop-i in
-    forbids_all _ _ _ c.args.pairs c.args.shape.pairs l.i l.invariant.2 (omega arith) (omega arith)
+    let a = c.args in
+    any_from_yields_List (λ p. forbids a.body.shape.class p a.s.0 a.t.0) _ _ _
+    c.any.ensures.ran (YieldsList-from_slice _ (cc)) (λ x b q k. search (rules, tests))
+    ∙ some_any _ _ _ _

@@ -1,23 +1,28 @@
 -- `make` meets its contract: a refusal of the file, or what putting the sheet of its drawing comes to. Assumes nothing.
 use Rattle.rulefile.proofs.PartsLaws.{table_order, table_inside}
+use Rattle.std.proofs.lemmas.Result.{err_from_is_err_and}
 use Rattle.making.proofs.FoundLaws.{found_well, found_low, found_short, made_refused, made}
 use borrow.Author.Rules.{rules}
 use Rattle.making.proofs.make.Goals as goal
 
-pub returns-in-Refused : goal.returns-in-Refused
-returns-in-Refused c = search (rules, made_refused)
+pub returns-in_err-parts : goal.returns-in_err-parts
+returns-in_err-parts c =
+    let p = err_from_is_err_and c.from_residual.result c.from_residual.ensures.1 in
+    rw (p.1, p.2) (made_refused _ _ c.in_err-parts.ensures)
 
-pub slice_bounds-put-count : goal.slice_bounds-put-count
-slice_bounds-put-count c = search (rules, table_order)
+pub slice_bounds-body-count : goal.slice_bounds-body-count
+slice_bounds-body-count c = search (rules, table_order)
 
-pub slice_bounds-put-start : goal.slice_bounds-put-start
-slice_bounds-put-start c = search (rules, table_order)
+pub slice_bounds-body-start : goal.slice_bounds-body-start
+slice_bounds-body-start c = search (rules, table_order)
 
-pub slice_bounds-put-end : goal.slice_bounds-put-end
-slice_bounds-put-end c = search (rules, table_inside)
+pub slice_bounds-body-end : goal.slice_bounds-body-end
+slice_bounds-body-end c = search (rules, table_inside)
 
 pub put-requires : goal.put-requires
-put-requires c = (search (rules, found_well), search (rules, found_low), search (rules, found_short))
+put-requires c =
+    let is = c.in_ok-parts.ensures in
+    (found_well _ is, found_low _ is, found_short _ is)
 
 pub returns : goal.returns
-returns c = search (rules, made)
+returns c = made _ c.in_ok-parts.ensures c.put.ensures

@@ -1,22 +1,9 @@
--- `events` meets its contract: one law for each way out. Assumes nothing.
-use borrow.Author.Rules.{rules}
-use Rattle.monitor.proofs.EventLaws.{opened_head}
-use Rattle.monitor.proofs.EveningLaws.{evening_19, evening_11, evening_12, evening_each}
+-- `events` meets its contract: it may not begin, or the events are taken one after another. Assumes nothing.
+use Rattle.monitor.proofs.EveningLaws.{evening_none, evening_each}
 use Rattle.monitor.proofs.events.Goals as goal
 
-ruleset ways = (rules, opened_head, evening_19, evening_11, evening_12, evening_each)
+pub returns-in-Ok : goal.returns-in-Ok
+returns-in-Ok c = evening_each _ _ _ _ _ c.in-Ok.ensures.sheet c.in-Ok.ensures.verdict c.each.ensures
 
-pub returns-then-log-gt4096 : goal.returns-then-log-gt4096
-returns-then-log-gt4096 c = search ways
-
-pub returns-in_default : goal.returns-in_default
-returns-in_default c = search ways
-
-pub returns-then-unfit : goal.returns-then-unfit
-returns-then-unfit c = search ways
-
-pub each-requires : goal.each-requires
-each-requires c = search ways
-
-pub returns : goal.returns
-returns c = search ways
+pub returns-in-Err : goal.returns-in-Err
+returns-in-Err c = evening_none _ _ _ _ _ c.in-Err.ensures.verdict c.new.ensures

@@ -1,14 +1,19 @@
 -- `operations::mark_states` meets its contract, by the mode. Assumes nothing.
 use borrow.Author.Rules.{rules}
+use Rattle.std.proofs.lemmas.List.{take_min}
 use Rattle.operations.proofs.MarkLaws.{marks_joint, marks_pairs}
 use Rattle.operations.proofs.mark_states.Goals as goal
 
-pub returns-then-shape-eq-JOINT : goal.returns-then-shape-eq-JOINT
-returns-then-shape-eq-JOINT c =
-    let a = c.args in
-    marks_joint a.shape _ a.pairs c.good_states-good.ensures (search rules) c.backward-back.ensures (search rules)
+pub returns-then-body-eq-JOINT : goal.returns-then-body-eq-JOINT
+returns-then-body-eq-JOINT c =
+    let b = c.args.body in
+    let back = rw c.of-moves.ensures at c.backward-back.ensures in
+    marks_joint b.shape b.table.now b.pairs.now _ (rw c.min-used.ensures (take_min _ _)) _ c.good_states-good.ensures
+    _ c.if-body-eq-JOINT.true back (search rules)
 
 pub returns : goal.returns
 returns c =
-    let a = c.args in
-    marks_pairs a.shape _ a.pairs c.good_states-good.ensures (search rules) c.lost_states-halt.ensures
+    let b = c.args.body in
+    let halt = rw c.of-moves.ensures at c.lost_states-halt.ensures in
+    marks_pairs b.shape b.table.now b.pairs.now _ (rw c.min-used.ensures (take_min _ _)) _ c.good_states-good.ensures
+    _ c.if-body-eq-JOINT.false halt

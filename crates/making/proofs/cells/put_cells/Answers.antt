@@ -1,18 +1,22 @@
--- `put_cells` meets its contract: the cells below i stand at the front. Assumes nothing.
+-- `put_cells` meets its contract: the table is copied, and each of its bytes gets its operation. Assumes nothing.
+use native.Mathlib.Omega.{arith}
 use borrow.Author.Rules.{rules}
-use lib.ListN.{length-set}
-use Rattle.making.proofs.CellLaws.{mark_fits, cell_fits, cells_more, cells_all}
+use Rattle.making.proofs.CellLaws.{cells_none, mark_fits, cell_fits, cells_more, cells_all}
 use Rattle.making.proofs.cells.put_cells.Goals as goal
 
-pub overflow_mul-out : goal.overflow_mul-out
-overflow_mul-out c = search (rules, mark_fits)
+pub loop-cell-init : goal.loop-cell-init
+loop-cell-init c = cells_none c.args.marks c.args.table.now c.copy_from_slice.ensures.after
 
-pub overflow_add-out : goal.overflow_add-out
-overflow_add-out c = search (rules, cell_fits)
+pub overflow_mul-cell : goal.overflow_mul-cell
+overflow_mul-cell c = search (rules, mark_fits)
 
-pub loop-i-preserved : goal.loop-i-preserved
-loop-i-preserved c = (search rules, search (rules, length-set), search (rules, cells_more))
+pub overflow_add-cell : goal.overflow_add-cell
+overflow_add-cell c =
+    let l = c.loop-cell in
+    cell_fits c.args.marks c.args.table.now l.cell-items l.cell-index l.invariant (omega (arith, c.requires.0)) c.requires.1 c.at.result c.mark.ensures
+
+pub loop-cell-preserved : goal.loop-cell-preserved
+loop-cell-preserved c = search (rules, cells_more)
 
 pub returns : goal.returns
-returns c =
-    cells_all c.args.marks c.args.table.now _ c.args.out.now c.loop-i.i c.loop-i.invariant.2 c.requires.0 (search rules) (search rules)
+returns c = cells_all c.args.marks c.args.table.now c.loop-cell.cell-items c.loop-cell.cell-index c.loop-cell.invariant (search rules)

@@ -1,4 +1,4 @@
--- `printed::lines::put_operation` meets its contract, in each arm.
+-- `printed::lines::put_operation` meets its contract: in each arm.
 -- Assumes nothing.
 use borrow.Author.Rules.{rules}
 use Rattle.printed.proofs.LineLaws.{end_put}

@@ -1,6 +1,6 @@
 -- `met` meets its contract. Assumes nothing.
-use Rattle.why.proofs.PickLaws.{met_is}
 use borrow.Author.Rules.{rules}
+use Rattle.why.proofs.PickLaws.{met_is}
 use Rattle.why.proofs.grounds.met.Goals as goal
 
 pub returns : goal.returns

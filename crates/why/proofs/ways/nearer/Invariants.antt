@@ -9,8 +9,8 @@ use Rattle.why.specs.Steps.{steps_below}
 use Rattle.why.proofs.ways.nearer.Given as goal
 
 abbrev pub invariant-loop-s : goal.invariant-loop-s
-invariant-loop-s l = (l.s ≤ l.states) × (length l.steps ≡ length l.initial.steps)
-    × (l.out ≡ nearer_below (target l.table l.events) l.events l.set l.s) × (l.steps ≡ steps_below (target l.table l.events) l.events l.set l.initial.steps l.s)
+invariant-loop-s l = (l.s ≤ l.moves.states) × (length l.steps ≡ length l.initial.steps)
+    × (l.out ≡ nearer_below (target l.moves.table.now l.moves.events) l.moves.events l.set l.s) × (l.steps ≡ steps_below (target l.moves.table.now l.moves.events) l.moves.events l.set l.initial.steps l.s)
 
 abbrev pub decreases-loop-s : goal.decreases-loop-s
-decreases-loop-s l = l.states - l.s
+decreases-loop-s l = l.moves.states - l.s

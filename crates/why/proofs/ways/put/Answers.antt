@@ -11,8 +11,8 @@ loop-rows-init c = (search rules, sought_none _ _ _ _ _ (search rules))
 pub nearer-near-requires : goal.nearer-near-requires
 nearer-near-requires c = (search rules, search rules, search rules)
 
-pub overflow_add-moves : goal.overflow_add-moves
-overflow_add-moves c = search (rules, sought_fewer)
+pub overflow_add-rounds : goal.overflow_add-rounds
+overflow_add-rounds c = search (rules, sought_fewer)
 
 pub loop-rows-smaller : goal.loop-rows-smaller
 loop-rows-smaller c = search (rules, sought_less)

@@ -1,0 +1,14 @@
+-- `checks::moves_by` meets its contract: in class 4, at a row with a forbidden move, after one without.
+-- Assumes nothing.
+use Rattle.std.proofs.Common.{rules}
+use Rattle.checks.proofs.CheckLaws.{moves_four, row_hit, row_none}
+use Rattle.checks.proofs.moves_by.Goals as goal
+
+pub returns-then-body-eq4 : goal.returns-then-body-eq4
+returns-then-body-eq4 g c = search (rules, moves_four)
+
+pub returns-then-e-body : goal.returns-then-e-body
+returns-then-e-body g c = search (rules, row_hit, c.requires.tells)
+
+pub loop-s-preserved : goal.loop-s-preserved
+loop-s-preserved g c = search (rules, row_none, c.requires.tells)

@@ -1,8 +1,0 @@
--- `printed::text::put_two` meets its contract.
--- Assumes nothing.
-use borrow.Author.Rules.{rules}
-use Rattle.printed.proofs.LineLaws.{two_put}
-use Rattle.printed.proofs.text.put_two.Goals as goal
-
-pub returns : goal.returns
-returns c = search (rules, two_put)
