@@ -20,12 +20,12 @@ use Rattle.book.specs.Directory.{AreEntries, spare_at, length_at, distance_at, c
 
 -- what the bytes say
 
-pub part_is : (b : List ℕ) → Bytes b → (at width : ℕ) → at + width ≤ length b → width ≤ 4 → {x : ℕ}
+pub part_is : (b : List ℕ) → Bytes b → (at width : ℕ) → at + width ≤ length b → width ≤ 8 → {x : ℕ}
     → x ≡ value_of (take 8 (take (at + width - at) (drop at b))) → (x ≡ value_of (take width (drop at b))) × (x < 256 ^ width)
 part_is b bytes at width h w is =
     let k : at + width - at ≡ width = omega arith in
     let n : length (take width (drop at b)) ≡ width = length-take-le width (drop at b) (rw length-drop (omega arith)) in
-    let v = rw (k, value_of_part width (drop at b) (omega arith)) at is in
+    let v = rw (k, value_of_part width (drop at b) w) at is in
     (v, rw v (rw n at (value_of_lt (take width (drop at b)) (bytes_take width (drop at b) (bytes_drop at b bytes)))))
 
 pub count_is : (b : List ℕ) (end : ℕ) → end + 2 ≡ length b → value_of (take 8 (take (length b - end) (drop end b))) ≡ count_in b

@@ -1,16 +1,20 @@
 -- Laws of a lookup in two books: the returns of `look` and of `find`, and what a lookup means.
 -- Assumes nothing.
-use Prim.Native.Nat.{ℕ, ◌+◌, ◌≤◌}
+use Prim.Native.Nat.{ℕ, ◌+◌, ◌-◌, ◌≤◌}
+use native.Mathlib.Omega.{arith}
 use mathlib.Core.Path.{◌≡◌, refl, sym, ◌∙◌}
 use borrow.Author.Tests.{not-false}
 use mathlib.Core.Bool.{true}
 use mathlib.Core.List.{List}
 use lib.ListN.{length}
 use denote.Ref.{Bor}
+use borrow.Rule.Slice.PartAt.{sl_partˢ}
+use borrow.Rule.Slice.Shared.{by_byte}
 use Rattle.std.specs.Prelude.{Some, None, Ok, Err}
+use Rattle.rule.specs.declared.Refusal.{Refusal}
 use Rattle.rule.proofs.RefusalLaws.{else_sound, refuse_sound}
 use Rattle.book.specs.Directory.{well_formed, entries_in}
-use Rattle.book.specs.Finding.{Sought, Looked, sought_in, pick, books_verdict, unless, lookup_of, PartBy, FindPromise, bytes_by}
+use Rattle.book.specs.Finding.{Sought, Looked, sought_in, pick, books_verdict, unless, lookup_of, PartOf, PartBy, FindPromise, bytes_by}
 use Rattle.book.specs.Finding.{Finds, in_job, in_office, not_there, in_neither, not_in_job, not_in_office}
 use Rattle.book.specs.declared.Lookup.TheVariants.{Job, Office}
 use Rattle.book.proofs.SeekLaws.{sought_inside}
@@ -88,3 +92,19 @@ part_bytes job office number age part p = by (lookup_of job.now office.now numbe
     by (Ok (Job start size)) q = q.bytes
     by (Ok (Office start size)) q = q.bytes
     by (Err x) q = q.bytes
+
+-- the part that is handed back, by where it was found
+module _ (job office : Bor (List ℕ)) (number age : ℕ) {found : Looked} (is : found ≡ lookup_of job.now office.now number age) where
+  part_of : (whole : Bor (List ℕ)) (start size : ℕ) → PartOf whole start size (sl_partˢ whole (by_byte start whole.ref_ptr.1) start (start + size))
+  part_of whole start size = let z : start + size - start ≡ size = omega arith in record { bytes = rw z; block = refl; place = omega arith }
+
+  pub job_part : {start size : ℕ} → found ≡ Ok (Job start size)
+      → FindPromise job office number age (sl_partˢ job (by_byte start job.ref_ptr.1) start (start + size))
+  job_part {start} {size} e = rw (sym is ∙ e) (part_of job start size)
+
+  pub office_part : {start size : ℕ} → found ≡ Ok (Office start size)
+      → FindPromise job office number age (sl_partˢ office (by_byte start office.ref_ptr.1) start (start + size))
+  office_part {start} {size} e = rw (sym is ∙ e) (part_of office start size)
+
+  pub no_part : {r : Refusal} → found ≡ Err r → FindPromise job office number age (sl_partˢ job (by_byte 0 job.ref_ptr.1) 0 0)
+  no_part e = rw (sym is ∙ e) (part_of job 0 0)

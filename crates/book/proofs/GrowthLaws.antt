@@ -9,12 +9,14 @@ use mathlib.Core.List.{List, [], ◌++◌}
 use lib.ListN.{length, get_or, take, drop, length-append}
 use lib.Seq.{length-take-le}
 use Rattle.octets.specs.Numbers.{digits}
+use Rattle.octets.specs.Copies.{copied}
+use Rattle.octets.proofs.CopyLaws.{copied_full}
 use Rattle.octets.proofs.ListLaws.{part_more}
 use Rattle.rulefile.specs.Layout.{flat_up_to}
 use Rattle.rulefile.proofs.ListLaws.{length_flat_up_to}
 use Rattle.book.specs.Book.{entry_of, after_rules}
 use Rattle.book.specs.Directory.{AreEntries, length_at, distance_at, count_in, directory_in}
-use Rattle.book.specs.Adding.{moved_at, moved_of, last_of, grown}
+use Rattle.book.specs.Adding.{moved_at, moved_of, last_of, grown_directory, grown}
 use Rattle.book.proofs.ChunkLaws.{number_read, length_read, distance_read}
 use Rattle.book.proofs.BookLaws.{length_entry}
 
@@ -41,7 +43,18 @@ module _ (b : List ℕ) (d grow : ℕ) where
 
 -- the whole book
 
-length_last : (n s c : ℕ) → length (last_of n s c) ≡ 10
+-- the old rules and the new one are copied into parts of just their lengths
+pub grown_put : (b f : List ℕ) (number : ℕ) {d c : ℕ} (front file : List ℕ) {first second third : List ℕ} → d + (8 * c + 2) ≡ length b → c ≡ count_in b
+    → first ≡ copied (take d b) front → length front ≡ d → second ≡ copied f file → length file ≡ length f
+    → third ≡ grown_directory b c number (length f) → first ++ (second ++ third) ≡ grown b number f
+unfolding grown
+grown_put b f number {d} {c} front file ends counted one front_long two file_long three =
+    let at : d ≡ directory_in b = omega (arith, ends, counted) in
+    let first_is = one ∙ copied_full (take d b) front (omega (arith, length-take-le d b (omega (arith, ends)))) in
+    let second_is = two ∙ copied_full f file (omega arith) in
+    rw (first_is, second_is, three, counted, at) refl
+
+pub length_last : (n s c : ℕ) → length (last_of n s c) ≡ 10
 unfolding digits last_of
 length_last n s c = refl
 

@@ -14,7 +14,7 @@ use Rattle.std.proofs.lemmas.List.{get_or-take}
 use Rattle.std.specs.Prelude.{Some, None, Ok, Err}
 use Rattle.rule.specs.declared.Refusal.TheVariants.{Missing}
 use Rattle.book.specs.Directory.{AreEntries, length_at, distance_at, count_in, directory_in, well_formed}
-use Rattle.book.specs.Finding.{Sought, Entry, newest_of, newest_first, seek, sought_in}
+use Rattle.book.specs.Finding.{Sought, Entry, entry_at, newest_of, newest_first, seek, sought_in}
 use Rattle.book.proofs.ChunkLaws.{number_read, length_read, distance_read}
 use Rattle.book.proofs.DirectoryLaws.{Placed, placed}
 
@@ -25,6 +25,11 @@ ended older age = cond (eqb older age) (Ok None) (Err Missing)
 -- the search goes over the entries from the last on: of those that are left the last is the newest, and its rule begins in the book
 abbrev entry_by : (b e : List ℕ) → Entry
 entry_by b e = record { number = get_or e 0 0; start = length b - distance_at e 0; size = length_at e 0 }
+
+newest_step : (b : List ℕ) (d left : ℕ) → 0 < left → newest_of b d left ≡ entry_at b (d + 8 * (left - 1)) ∷ newest_of b d (left - 1)
+unfolding newest_of
+newest_step b d zero h = absurd (omega arith)
+newest_step b d (suc n) h = let q : suc n - 1 ≡ n = omega arith in rw q
 
 pub record Turn (b : List ℕ) (start : ℕ) (entries left rest : List (List ℕ)) (e : List ℕ) : Type 0 where
   pub newest : newest_of b start (length left) ≡ entry_by b e ∷ newest_of b start (length rest)

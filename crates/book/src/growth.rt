@@ -58,15 +58,15 @@ fn put_directory(out: &mut [u8], old: Directory<'_>, number: u8, size: usize)
 }
 
 // Fills a slice with the new book.
-#[tactic(auto, unfolding(crate::specs::Adding::grown))]
+#[tactic(auto, using(crate::proofs::GrowthLaws::grown_put))]
 fn put_grown(out: &mut [u8], old: Directory<'_>, number: u8, rule: &[u8])
     requires { (length rule.now < 60000) × (length out.old ≡ length old.book.now + (length rule.now + 8)) }
     ensures { out.new ≡ grown old.entry.book.now number rule.now }
 {
     let (rules, rest) = out.split_at_mut(old.start);
-    rules.copy_from_slice(&old.book[..old.start]);
+    octets::copy(&old.book[..old.start], rules);
     let (file, directory) = rest.split_at_mut(rule.len());
-    file.copy_from_slice(rule);
+    octets::copy(rule, file);
     put_directory(directory, old, number, rule.len());
 }
 

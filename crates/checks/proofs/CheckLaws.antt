@@ -1,6 +1,6 @@
 -- Laws of the checks 5 to 9.
 -- Assumes nothing.
-use Rattle.std.proofs.Common.{◌≡◌, ℕ, zero, suc, ◌+◌, ◌-◌, ◌^◌, ◌≤◌, ◌<◌, Bool, true, false, not, ◌&&◌, ◌||◌, eqb, ltb}
+use Rattle.std.proofs.Common.{◌≡◌, ℕ, zero, suc, ◌+◌, ◌-◌, ◌/◌, ◌^◌, ◌≤◌, ◌<◌, Bool, true, false, not, ◌&&◌, ◌||◌, eqb, ltb}
 use Rattle.std.proofs.Common.{List, [], ◌∷◌, Ok, Err, length, get_or, take, sym, refl, ap, ◌∙◌, arith}
 use native.Mathlib.Nat.{lt_of_lt_of_le, le_of_suc-le-suc}
 use lib.Pow.{pow_mono}
@@ -16,7 +16,7 @@ use Rattle.rule.specs.Operations.{reach_of}
 use Rattle.rule.specs.Reach.{place_of, target, reached_within, Closed}
 use Rattle.rule.specs.Refusals.{or_else, first_below, first_cell, entry_at, entries, members, exceeds, excess, move_at, moves}
 use Rattle.rule.specs.Refusals.{stopped_pairs, stopped_joint, stopped, conditions}
-use Rattle.rule.specs.Sets.{has, those, meets, Members, names_past}
+use Rattle.rule.specs.Sets.{has, those, meets, Members, is_empty, names_past}
 use Rattle.rule.specs.Stopping.{stopping_joint}
 use Rattle.rule.specs.Verdict.{Verdict}
 use Rattle.rule.specs.Ways.{least, event_into}
@@ -46,7 +46,7 @@ module _ (n : ℕ) where
   low_at (x ∷ l) p (suc i) h = low_at l ((and_says (lt_says x n) (itself (list_all (λ x. ltb x n) l))).0 p).1 i (le_of_suc-le-suc h)
 
   -- past the table it is 0
-  low : (table : List ℕ) → list_all (λ x. ltb x n) table ≡ true → 0 < n → (k s e : ℕ) → target table k s e < n
+  pub low : (table : List ℕ) → list_all (λ x. ltb x n) table ≡ true → 0 < n → (k s e : ℕ) → target table k s e < n
   unfolding target
   low table p z k s e =
       below_or (place_of k s e) (length table)
@@ -67,6 +67,10 @@ entries_closed d e = (entries_sound d).0 (sym e)
 pub ruleset cells = (below_none, below_more, cells_none, cells_more, cells_end, entry_hit)
 
 -- 6: a set that can hold the states names none past 64
+pub names_shifted : (n x : ℕ) → not (eqb (x / 2 ^ n) 0) ≡ names_past n x
+unfolding names_past is_empty
+names_shifted n x = refl
+
 pub names_far : (n x : ℕ) → x < 2 ^ 64 → 64 ≤ n → names_past n x ≡ false
 names_far n x h k = names_none n x (lt_of_lt_of_le h (pow_mono k))
 
@@ -90,18 +94,21 @@ pub forbids_is : (class : ℕ) (p : Pair) (s t : ℕ) → forbids class p s t
 unfolding forbids moves_into moves_out
 forbids_is class p s t = refl
 
+-- the empty pair forbids nothing
+forbids_none : (class s t : ℕ) → forbids class no_pair s t ≡ false
+unfolding forbids moves_into moves_out
+forbids_none class s t = rw (has_none s, has_none t) (neither (eqb class 1 || eqb class 3) (eqb class 2 || eqb class 3))
+  where
+    neither : (a b : Bool) → (a && false) || (b && false) ≡ false
+    neither true true = refl
+    neither true false = refl
+    neither false true = refl
+    neither false false = refl
+
 -- row by row
 module _ (d : Drawing) (s : ℕ) where
   abbrev is_forbidden : ℕ → Bool
   is_forbidden e = forbids_some d.shape.class d.pairs s (next d s e)
-
-  pub forbidden_least : (e : ℕ) → e < events d → is_forbidden e ≡ true → ((i : ℕ) → i < e → is_forbidden i ≡ false) → e ≡ first_forbidden d s
-  unfolding first_forbidden
-  forbidden_least e l h none = sym (least_is is_forbidden (events d) e l h none)
-
-  pub forbidden_none : ((i : ℕ) → i < events d → is_forbidden i ≡ false) → events d ≡ first_forbidden d s
-  unfolding first_forbidden
-  forbidden_none none = sym (least_none is_forbidden (events d) none)
 
   -- in a row whose targets sets can hold, by the set of what is forbidden
   module _ (x : ℕ) (members : Members x (forbids_some d.shape.class d.pairs s)) (held : states d ≤ 64)
@@ -119,6 +126,12 @@ module _ (d : Drawing) (s : ℕ) where
         below_or at (events d)
         (λ h. sym (least_is is_forbidden (events d) at h (sym (agree at h) ∙ least_holds p (events d) h) before))
         (λ h. let q : at ≡ events d = omega arith in q ∙ sym (least_none is_forbidden (events d) (λ i l. before i (omega arith))))
+
+  -- the first forbidden cell
+  pub move_hit : (e : ℕ) → first_cell (move_at d) s (events d) ≡ Ok tt → first_below (move_at d s) e ≡ Ok tt
+      → is_forbidden e ≡ true → s < states d → e < events d → moves d ≡ Err (Move (state_no s) (event_no e))
+  unfolding moves
+  move_hit e rows none here hs he = cells_hit (move_at d) (events d) s e _ rows none (rw here) (states d) hs he
 
   -- a row is sound up to its first forbidden move
   module _ (e : ℕ) (is : e ≡ first_forbidden d s) (rows : first_cell (move_at d) s (events d) ≡ Ok tt) where

@@ -9,7 +9,7 @@ ghost use Rattle.rule.specs.Drawing.{drawing_of, joint, pair_at, initial, states
 ghost use Rattle.rule.specs.Reach.{Closed};
 ghost use Rattle.rule.specs.Refusals.{refuse_if, first_of, conditions};
 ghost use Rattle.rule.specs.Refusals as paper;
-ghost use Rattle.rule.specs.Sets.{names_past};
+ghost use Rattle.rule.specs.Sets.{Members, names_past};
 ghost use Rattle.rule.specs.Stopping.{stopping_joint};
 ghost use Rattle.rule.specs.declared.StateNo.{StateNo};
 ghost use Rattle.rule.specs.declared.Refusal.TheVariants.{Range};
@@ -59,16 +59,18 @@ pub fn check_entries(body: Body) -> Result<(), Refusal>
         return Ok(());
     }
     let moves = Moves::of(body);
-    for s in 0..states {
+    let mut verdict = Ok(());
+    'cells: for s in 0..states {
         let state = StateNo(s);
         for e in 0..events {
             let event = EventNo(e);
             if states <= moves.next(state, event).0 {
-                return Err(Refusal::Entry(state, event));
+                verdict = Err(Refusal::Entry(state, event));
+                break 'cells;
             }
         }
     }
-    Ok(())
+    verdict
 }
 
 // The used pairs, or as many of them as there are.
@@ -155,30 +157,44 @@ fn forbids_some(body: Body, s: StateNo, t: StateNo) -> bool
         .any(|pair| forbids(body.shape.class, *pair, s, t))
 }
 
-// The lowest event of a row whose move the class forbids, or K, as `event_into` has it. What is forbidden from a state is a set, made once for its row;
-// only a target that no set can hold is asked for by itself.
-#[tactic(auto, using(crate::proofs::CheckLaws::forbidden_least, crate::proofs::CheckLaws::forbidden_none))]
-fn first_forbidden(body: Body, s: StateNo) -> u8
-    ensures { result ≡ first_forbidden (drawing_of body.entry) s.0 }
+// Whether the class forbids the move from s to t for one of them, where the set of what is forbidden from s is made: only a target that no set can hold
+// is asked for by itself.
+fn is_forbidden(body: Body, set: u64, s: StateNo, t: StateNo) -> bool
+    requires { Members set (forbids_some body.shape.class (drawing_of body).pairs s.0) }
+    ensures { result ≡ forbids_some body.entry.shape.class (drawing_of body.entry).pairs s.0 t.0 }
 {
-    let events = body.shape.events;
-    let moves = Moves::of(body);
-    let set = banned(body.shape.class, used(body), s);
-    for e in 0..events {
-        let t = moves.next(s, EventNo(e));
-        let is_forbidden = if t.0 < Rule::STATES {
-            contains(set, t)
-        } else {
-            forbids_some(body, s, t)
-        };
-        if is_forbidden {
-            return e;
-        }
+    if t.0 < Rule::STATES {
+        contains(set, t)
+    } else {
+        forbids_some(body, s, t)
     }
-    events
 }
 
-// The same where sets can hold the row's targets.
+// 8: the first move in row order that the class forbids. Class 4 forbids none. What is forbidden from a state is a set, made once for its row.
+#[tactic(auto, using(crate::proofs::CheckLaws::cells, crate::proofs::CheckLaws::move_hit), unfolding(rule::specs::Refusals::moves))]
+pub fn check_moves(body: Body) -> Result<(), Refusal>
+    ensures { result ≡ paper.moves (drawing_of body.entry) }
+{
+    if body.shape.class == 4 {
+        return Ok(());
+    }
+    let moves = Moves::of(body);
+    let mut verdict = Ok(());
+    'rows: for s in 0..body.shape.states {
+        let from = StateNo(s);
+        let set = banned(body.shape.class, used(body), from);
+        for e in 0..body.shape.events {
+            let code = EventNo(e);
+            if is_forbidden(body, set, from, moves.next(from, code)) {
+                verdict = Err(Refusal::Move(from, code));
+                break 'rows;
+            }
+        }
+    }
+    verdict
+}
+
+// The lowest event of a row whose move the class forbids, or K, as `event_into` has it, where sets can hold the row's targets.
 fn first_forbidden_closed(body: Body, s: StateNo) -> u8
     requires held { body.shape.states ≤ 64 }
     requires closed { Closed body.table.now body.shape.states body.shape.events }
@@ -188,11 +204,12 @@ fn first_forbidden_closed(body: Body, s: StateNo) -> u8
     Moves::of(body).event_into(s, banned(body.shape.class, used(body), s))
 }
 
-// 8, where `first` tells the first event of a row whose move the class forbids, or K. Class 4 forbids none.
+// The same of a table whose entries are states that sets can hold.
+#[inline(never)]
 #[tactic(auto, using(rule::proofs::RefusalLaws::cells_none), unfolding(rule::specs::Refusals::moves))]
-fn moves_by<F: Fn(StateNo) -> u8>(body: Body, first: F) -> Result<(), Refusal>
-    requires callable { (s : StateNo) → s.0 < body.shape.states → F.pre first s }
-    requires tells { (s : StateNo) (e : ℕ) → F.post first s e → e ≡ first_forbidden (drawing_of body) s.0 }
+fn check_closed_moves(body: Body) -> Result<(), Refusal>
+    requires held { body.shape.states ≤ 64 }
+    requires closed { Closed body.table.now body.shape.states body.shape.events }
     ensures { result ≡ paper.moves (drawing_of body.entry) }
 {
     if body.shape.class == 4 {
@@ -200,29 +217,12 @@ fn moves_by<F: Fn(StateNo) -> u8>(body: Body, first: F) -> Result<(), Refusal>
     }
     for s in 0..body.shape.states {
         let from = StateNo(s);
-        let e = first(from);
+        let e = first_forbidden_closed(body, from);
         if e < body.shape.events {
             return Err(Refusal::Move(from, EventNo(e)));
         }
     }
     Ok(())
-}
-
-// 8: the first move in row order that the class forbids.
-pub fn check_moves(body: Body) -> Result<(), Refusal>
-    ensures { result ≡ paper.moves (drawing_of body.entry) }
-{
-    moves_by(body, |s| first_forbidden(body, s))
-}
-
-// The same of a table whose entries are states that sets can hold.
-#[inline(never)]
-fn check_closed_moves(body: Body) -> Result<(), Refusal>
-    requires held { body.shape.states ≤ 64 }
-    requires closed { Closed body.table.now body.shape.states body.shape.events }
-    ensures { result ≡ paper.moves (drawing_of body.entry) }
-{
-    moves_by(body, |s| first_forbidden_closed(body, s))
 }
 
 // The lowest used pair by which the initial state is stopping on its own. A pair past those that are lent is empty, and counts too.

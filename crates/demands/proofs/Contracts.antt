@@ -35,7 +35,7 @@ use Rattle.monitor.specs.Event.{EventPromise}
 use Rattle.monitor.specs.Evening.{EveningPromise}
 use Rattle.why.specs.Why.{WhyPromise}
 use Rattle.printed.specs.Printing.{PrintPromise}
-use Rattle.pachallu.specs.Told.{MakeForC, PrintForC, FindForC, AddForC, FreshForC, EventForC, EveningForC, WhyForC}
+use Rattle.pachallu.specs.Told.{made_of, MakeForC, PrintForC, FindForC, AddForC, FreshForC, EventForC, EveningForC, WhyForC}
 use Rattle.rulefile.specs.contracts as rulefile
 use Rattle.rulefile.proofs as rulefile_proofs
 use Rattle.book.specs.contracts as book
@@ -140,6 +140,10 @@ pub print_keeps : Keeps printed.print.ended printed_proofs.print.Reads.Learnt λ
 print_keeps κs a x = x.told
 
 -- the calls from C
+
+pub made_from_keeps : Keeps pachallu.MadeFromResultUsizeRefusal.from.ended pachallu_proofs.MadeFromResultUsizeRefusal.from.Reads.Learnt λ κs a r l.
+    r ≡ made_of a.0
+made_from_keeps κs a x = x.told
 
 pub pachallu_make_keeps : Keeps pachallu.pachallu_make.ended pachallu_proofs.pachallu_make.Reads.Learnt λ κs a r l. MakeForC a.0.now a.1.0.now r l.1.0
 pachallu_make_keeps κs a x = x.told

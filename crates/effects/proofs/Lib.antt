@@ -1,3 +1,5 @@
+-- a store that has room
+pub mod EffectLaws
 -- a dump that has room
 pub mod DumpLaws
 -- what a turn leaves, and a refusal keeps

@@ -19,6 +19,16 @@ pub codes_append : (a b : List Entry) → codes (a ++ b) ≡ codes a ++ codes b
 codes_append [] b = refl
 codes_append (x ∷ a) b = ap (λ (l : List ℕ). x.code ∷ l) (codes_append a b)
 
+-- no two operations are equal
+pub halt_store : {o : Operation} → o ≡ Halt → o ≡ Store → ⊥
+halt_store p q = cc
+
+pub halt_dump : {o : Operation} → o ≡ Halt → o ≡ Dump → ⊥
+halt_dump p q = cc
+
+pub store_dump : {o : Operation} → o ≡ Store → o ≡ Dump → ⊥
+store_dump p q = cc
+
 -- before the first halt: `Quiet`, no entry so far was a halt; `Stopped`, one was, and w is what was taken before the first
 Quiet : List Entry → Type 0
 Quiet log = (xs : List Entry) → before_halt (log ++ xs) ≡ codes log ++ before_halt xs
@@ -155,7 +165,7 @@ module _ (m : Machine) where
           at = next_at Halt;
           valid = next_valid;
           right = next_right Halt p;
-          best = next_kept Halt (λ d. cc);
+          best = next_kept Halt (halt_dump p);
           going = inr (
             ⊎_elim (λ w. rw w.1 (quiet_stops log (entry e Halt) w.0 refl)) (λ w. stopped_more log (entry e Halt) (r ++ h) w.0) z.going,
             p,
@@ -166,14 +176,14 @@ module _ (m : Machine) where
           at = next_at Store;
           valid = next_valid;
           right = next_right Store p;
-          best = next_kept Store (λ d. cc);
+          best = next_kept Store (store_dump p);
           going = ⊎_elim
               (λ w. inl (quiet_more log (entry e Store) w.0 (λ es. refl), joined Store w.1))
-              (λ w. let h = L.halt_stays q e z.valid k w.1 in cc)
+              (λ w. absurd (halt_store (L.halt_stays q e z.valid k w.1) p))
               z.going;
         }
     step_sound Dump p =
-        let quiet : Quiet log × (r ++ h ≡ codes log) = ⊎_elim (λ w. w) (λ w. let h = L.halt_stays q e z.valid k w.1 in cc) z.going in
+        let quiet : Quiet log × (r ++ h ≡ codes log) = ⊎_elim (λ w. w) (λ w. absurd (halt_dump (L.halt_stays q e z.valid k w.1) p)) z.going in
         let all : r ++ (h ++ e ∷ []) ≡ codes (log ++ entry e Dump ∷ []) = joined Dump quiet.1 in
         record {
           at = next_at Dump;
@@ -268,7 +278,7 @@ module _ (m : Machine) where
         let taken : codes log ≡ codes before ++ x.code ∷ [] = ap codes p ∙ codes_append before (x ∷ []) in
         let there : q ≡ m.next (after m.next m.initial (codes before)) x.code =
         z.at ∙ ap (after m.next m.initial) taken ∙ after_append m.initial (codes before) (x.code ∷ []) in
-        let all = course_all (λ p. cc) in
+        let all = course_all (λ p. halt_dump p o) in
         let good : accepts_by m (take (length (codes log)) (codes log)) ≡ true =
         ap (accepts_by m) (take_all (length (codes log)) (codes log) (omega arith) ∙ taken) ∙ accepts_last (codes before) x.code
         ∙ ap m.accepting (sym there) ∙ a in

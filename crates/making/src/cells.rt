@@ -15,7 +15,7 @@ fn put_cells(out: &mut [u8], table: &[u8], marks: Marks)
     requires { (length out.old ≡ length table.now) × ((i : ℕ) → get_or table.now i 0 < 64) }
     ensures { out.new ≡ map (λ t. t + 64 * mark_of (operation_in marks t)) table.now }
 {
-    out.copy_from_slice(table);
+    octets::copy(table, out);
     for cell in out {
         *cell += 64 * marks.at(StateNo(*cell)).mark();
     }

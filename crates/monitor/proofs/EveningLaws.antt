@@ -89,20 +89,24 @@ module _ (sheet : List ℕ) (run : Run) (log memory output : List ℕ) where
 abbrev pub so_far : Evening → (output : List ℕ) → Outcome → Evening × List ℕ × List ℕ
 so_far v output x = (both_of v (report_of x), x.memory, take v.released output ++ (x.released ++ x.rest))
 
+-- what is reported after so many events: those of them that were not ignored were taken
+abbrev pub after : (passed : ℕ) → Evening → Evening
+after passed v = record v { taken = passed - v.ignored }
+
 -- what the loop keeps: what was reported so far, and then the calls from here, are what the calls of the whole log come to
 pub record Going (sheet log memory₀ output₀ : List ℕ) (run : Run) (memory output : List ℕ) (passed : ℕ) (v : Evening) : Type 0 where
   pub sound : v.verdict ≡ Ok tt
-  pub count : v.taken + v.ignored ≡ passed
+  pub count : v.ignored ≤ passed
   pub released_in : v.released ≤ length output
   pub here : let x = calls_of sheet run log memory₀ output₀ in
-      so_far v output (calls_of sheet v.run (drop passed log) memory (drop v.released output)) ≡ (report_of x, x.memory, x.released ++ x.rest)
+      so_far (after passed v) output (calls_of sheet v.run (drop passed log) memory (drop v.released output)) ≡ (report_of x, x.memory, x.released ++ x.rest)
 
 -- a turn of the loop
 module _ {sheet log memory₀ output₀ : List ℕ} {run : Run} (memory output : List ℕ) {passed : ℕ} {v : Evening}
     (g : Going sheet log memory₀ output₀ run memory output passed v) where
   -- the calls may end here
   ended : (w : Verdict) → calls_of sheet v.run (drop passed log) memory (drop v.released output) ≡ idle v.run memory (drop v.released output) w
-      → {r : Evening} → r ≡ record v { verdict = w } → Reports (calls_of sheet run log memory₀ output₀) r memory output
+      → {r : Evening} → r ≡ record v { taken = passed - v.ignored; verdict = w } → Reports (calls_of sheet run log memory₀ output₀) r memory output
   ended w e q =
       let h = simp (e, add-zero) at g.here in
       record {
@@ -112,9 +116,13 @@ module _ {sheet log memory₀ output₀ : List ℕ} {run : Run} (memory output :
       }
 
   -- the log is over
-  pub calls_over : length log ≤ passed → Reports (calls_of sheet run log memory₀ output₀) v memory output
+  pub calls_over : length log ≤ passed → passed ≤ length log → {r : Evening} → r ≡ record v { taken = length log - v.ignored }
+      → Reports (calls_of sheet run log memory₀ output₀) r memory output
   unfolding calls_of
-  calls_over h = ended (Ok tt) (rw (drop_of_length-le log h)) (rw g.sound)
+  calls_over h within is = ended (Ok tt) (rw (drop_of_length-le log h)) (is ∙ rw (all, g.sound))
+    where
+      all : length log ≡ passed
+      all = omega (arith, h, within)
 
   module _ {head : Head} (opened : Ok head ≡ opened_of sheet) (below : passed < length log) (r : Answer) (memory' part' : List ℕ)
       (p : StepPromise head sheet v.run (event_no (get_or log passed 0)) memory (mid_of v.released (length output - v.released) output) r memory' part') where
@@ -158,14 +166,14 @@ module _ {sheet log memory₀ output₀ : List ℕ} {run : Run} (memory output :
         rw c (calls_more sheet v.run code (drop (passed + 1) log) memory rest r memory' part' promise)
 
     pub goes_on : {t : Taken} → r ≡ Ok (Some t) → t.released ≤ length part' → {w : Evening}
-        → w ≡ record v { run = t.run; taken = v.taken + 1; released = v.released + t.released }
+        → w ≡ record v { run = t.run; released = v.released + t.released }
         → Going sheet log memory₀ output₀ run memory' output' (passed + 1) w
     goes_on {t} a fits is =
         let next = calls_of sheet t.run (drop (passed + 1) log) memory' (drop t.released part') in
         let now = take t.released part' in
         let one : List Entry = record { code = code; operation = t.operation } ∷ [] in
         let e : calls_of sheet v.run (drop passed log) memory rest ≡ joined one now [] next = rw a at more in
-        let taken_more : v.taken + 1 + length next.taken ≡ v.taken + length (one ++ next.taken) = omega arith in
+        let taken_more : passed + 1 - v.ignored + length next.taken ≡ passed - v.ignored + length (one ++ next.taken) = omega (arith, g.count) in
         let output_more = append_assoc (take v.released output) now (next.released ++ next.rest) in
         let released_more : v.released + t.released + length next.released ≡ v.released + length (now ++ next.released) =
         omega (arith, length-append now next.released, length-take-le t.released part' fits) in
@@ -191,12 +199,18 @@ module _ {sheet log memory₀ output₀ : List ℕ} {run : Run} (memory output :
         let k = kept (Ok None) refl refl (ignored_of (turn_of sheet v.run (event_no code) memory rest) v.run.held (sym a ∙ promise.answer)) in
         let next = calls_of sheet v.run (drop (passed + 1) log) memory rest in
         let e : calls_of sheet v.run (drop passed log) memory rest ≡ joined [] [] (code ∷ []) next = rw (a, k.0, k.1) at more in
+        let taken_same : passed + 1 - (v.ignored + 1) ≡ passed - v.ignored = omega arith in
         let ignored_more : v.ignored + 1 + length next.ignored ≡ v.ignored + length (code ∷ next.ignored) = omega arith in
-        rw (is, k.0, k.2) (record { sound = g.sound; count = omega (arith, g.count); released_in = g.released_in; here = rw ignored_more (rw e at g.here) })
+        rw (is, k.0, k.2) (record {
+          sound = g.sound;
+          count = omega (arith, g.count);
+          released_in = g.released_in;
+          here = rw (taken_same, ignored_more) (rw e at g.here);
+        })
 
     -- a refused one ends the calls
     pub calls_refused : {x : Refusal} → r ≡ Err x
-        → Reports (calls_of sheet run log memory₀ output₀) (record v { verdict = Err x }) memory' output'
+        → Reports (calls_of sheet run log memory₀ output₀) (record v { taken = passed - v.ignored; verdict = Err x }) memory' output'
     calls_refused {x} q =
         let k = kept (Err x) refl refl (away_of (turn_of sheet v.run (event_no code) memory rest) v.run.held x (sym q ∙ promise.answer)) in
         rw (k.0, k.2) (ended (Err x) (more ∙ rw (q, k.0, k.1)) refl)

@@ -1,7 +1,7 @@
 -- Laws of a fresh start, from the sheet that was opened.
 -- Assumes nothing.
 use Prim.Native.Nat.{ℕ}
-use mathlib.Core.Path.{◌≡◌, refl}
+use mathlib.Core.Path.{◌≡◌, refl, sym}
 use mathlib.Core.List.{List}
 use mathlib.Core.Logic.{◌↔◌}
 use Rattle.std.specs.Prelude.{Ok, Err}
@@ -14,6 +14,13 @@ use Rattle.sheet.proofs.OpeningLaws.{refused_when}
 use Rattle.effects.specs.Effects.{answer_told}
 use Rattle.monitor.specs.Fresh.{start_by, start_of}
 use Rattle.monitor.specs.Given.{fresh_order, FreshRow, bad_sheet}
+
+-- a sheet is refused for one reason alone, 11
+pub sheet_shut : (sheet : List ℕ) {x : Refusal} → Err x ≡ opened_of sheet → Err NoSheet ≡ opened_of sheet
+sheet_shut sheet {x} p = let w = (refused_when sheet x).0 (sym p) in rw w.1 p
+
+pub start_shut : (sheet : List ℕ) {x : Refusal} → Err x ≡ opened_of sheet → Err NoSheet ≡ start_of sheet
+start_shut sheet p = rw (← sheet_shut sheet p) refl
 
 -- a fresh start is refused as the sheet is
 start_refused : (o : Opened) (x : Refusal) → (start_by o ≡ Err x) ↔ (o ≡ Err x)

@@ -1,4 +1,5 @@
 pub mod CallsLaws
+pub mod EventLaws
 pub mod EveningLaws
 pub mod FirstLaws
 pub mod EveningGivenLaws

@@ -13,10 +13,13 @@ use effects::{Run, Taken};
 use rule::{EventNo, Refusal};
 
 // A fresh run starts at the sheet's initial state with nothing held: refusal 11.
+#[tactic(auto, using(crate::proofs::FreshLaws::start_shut))]
 pub fn fresh(sheet: &[u8]) -> Result<Run, Refusal>
     ensures { result ≡ start_of sheet.now }
 {
-    let head = sheet::open(sheet)?;
+    let Ok(head) = sheet::open(sheet) else {
+        return Err(Refusal::Sheet);
+    };
     Ok(Run::new(head.initial))
 }
 

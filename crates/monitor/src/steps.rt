@@ -34,10 +34,13 @@ impl<'a> Opened<'a> {
     ghost use Rattle.monitor.specs.Evening.{calls_of, Reports};
 
     // The sheet, opened: refusal 11.
+    #[tactic(auto, using(crate::proofs::FreshLaws::sheet_shut))]
     pub(crate) fn new(sheet: &'a [u8]) -> Result<Self, Refusal>
         ensures { MatchResult result (λ o. o.sheet.now ≡ sheet.now) (λ x. Err x ≡ opened_of sheet.now) }
     {
-        let head = sheet::open(sheet)?;
+        let Ok(head) = sheet::open(sheet) else {
+            return Err(Refusal::Sheet);
+        };
         Ok(Self { sheet, head })
     }
 
@@ -86,13 +89,14 @@ impl<'a> Opened<'a> {
         Ok(Some(taken))
     }
 
-    // The events of a log, one after another, each given the unwritten rest of the output, up to the first refusal.
+    // The events of a log, one after another, each given the unwritten rest of the output, up to the first refusal. Of the events passed those that were
+    // not ignored were taken: a taken one costs no count of its own.
     pub(crate) fn each(self, run: Run, log: &[u8], memory: &mut [u8], output: &mut [u8]) -> Evening
         ensures { Reports (calls_of self.entry.sheet.now run log.now memory.old output.old)
             result memory.new output.new }
     {
         let mut evening = Evening::new(run, Ok(()));
-        for &code in log {
+        for (passed, &code) in log.iter().enumerate() {
             match self.step(
                 evening.run,
                 EventNo(code),
@@ -101,18 +105,21 @@ impl<'a> Opened<'a> {
             ) {
                 Ok(Some(taken)) => {
                     evening.run = taken.run;
-                    evening.taken += 1;
                     evening.released += taken.released;
                 }
                 Ok(None) => evening.ignored += 1,
                 Err(refusal) => {
                     return Evening {
+                        taken: passed - evening.ignored,
                         verdict: Err(refusal),
                         ..evening
                     };
                 }
             }
         }
-        evening
+        Evening {
+            taken: log.len() - evening.ignored,
+            ..evening
+        }
     }
 }

@@ -10,7 +10,7 @@ use lib.Seq.{take_all}
 use Rattle.octets.specs.Copies.{copied}
 
 -- as far as there is room and there is something to copy
-copied_at : (from to : List ℕ) (n : ℕ) → n ≡ min (length from) (length to) → take n from ++ drop n to ≡ copied from to
+pub copied_at : (from to : List ℕ) (n : ℕ) → n ≡ min (length from) (length to) → take n from ++ drop n to ≡ copied from to
 unfolding copied
 copied_at from to n e =
     elim (dec_le (length from) (length to)) [
@@ -21,14 +21,6 @@ copied_at from to n e =
           let m : n ≡ length to = omega arith in
           rw (m, drop_of_length-le to {i = length from} (omega arith), drop_of_length-le to {i = length to} (omega arith))
     ]
-
--- so much of it was put at the front, or there was nothing to put
-module _ (from to : List ℕ) (n : ℕ) (e : n ≡ min (length from) (length to)) where
-  pub copied_front : (front : List ℕ) → front ≡ take n from → front ++ drop n to ≡ copied from to
-  copied_front front is = rw is (copied_at from to n e)
-
-  pub copied_none : n ≤ 0 → to ≡ copied from to
-  copied_none h = let z : n ≡ 0 = omega arith in rw z at (copied_at from to n e)
 
 -- where all of it has room
 pub copied_whole : (from to : List ℕ) → length from ≤ length to → copied from to ≡ from ++ drop (length from) to

@@ -3,12 +3,13 @@
 use mathlib.Core.Path.{◌≡◌, refl, sym, ap, subst⁻¹, ◌∙◌}
 use mathlib.Core.List.{List, [], ◌∷◌, ◌++◌, append_assoc, append-nil}
 use Prim.Native.Nat.{ℕ, zero, suc, ◌+◌, ◌-◌, ◌*◌, ◌/◌, ◌%◌, ◌^◌, ◌≤◌, ◌<◌}
-use native.Mathlib.Nat.{pow-suc, div-lt_iff_lt-mul}
+use native.Mathlib.Nat.{pow-suc, pow-le-pow_right, lt_of_lt_of_le, div-lt_iff_lt-mul}
 use native.Mathlib.Omega.{arith}
 use lib.Arith.{digits_lt}
 use lib.Dec.{lit<}
 use lib.ListN.{length, get_or, take, drop, set, replicate, length-append, length-take, length-drop, length-set, drop_of_length-le}
 use lib.Seq.{drop-cons, get_or-drop, length-take-le, take_all}
+use mir.Val.{Fits}
 use mir.Syntax.{w64}
 use Rattle.std.proofs.lemmas.Grind.{take-set_at}
 use Rattle.std.proofs.lemmas.List.{drop-replicate}
@@ -29,6 +30,11 @@ bytes_take (suc n) (x ∷ l) h (suc i) = bytes_take n l (λ j. h (suc j)) i
 -- one byte more, in front of the lower end
 pub byte_more : (k x b : ℕ) → x < 256 ^ k → b < 256 → x * 256 + b < 256 ^ suc k
 byte_more k x b h hb = subst⁻¹ (λ (n : ℕ). x * 256 + b < n) (pow-suc 256 k) (digits_lt h hb)
+
+-- seven bytes and one more fit 64 bits
+pub byte_more_fits : (k x b : ℕ) → k < 8 → x < 256 ^ k → b < 256 → Fits w64 (x * 256 + b)
+byte_more_fits k x b hk h hb =
+    record { fits = lt_of_lt_of_le (byte_more k x b h hb) (pow-le-pow_right {n = 256} (lit< tt) hk) }
 
 -- the number that a list is from i on
 pub value_of_drop : (l : List ℕ) (i : ℕ) → i < length l → value_of (drop i l) ≡ value_of (drop (suc i) l) * 256 + get_or l i 0
@@ -114,12 +120,32 @@ part_back width a l h b =
     let n : length t ≡ width = length-take-le width (drop a l) (rw length-drop (omega arith)) in
     ap (λ (k : ℕ). digits k (value_of t)) (sym n) ∙ digits_value_of t (bytes_take width (drop a l) (bytes_drop a l b))
 
+-- x without so many of its lowest bytes
+pub without : ℕ → ℕ → ℕ
+without zero x = x
+without (suc width) x = without width (x / 256)
+
+pub without_zero : (x : ℕ) → without zero x ≡ x
+unfolding without
+without_zero x = refl
+
+pub without_suc : (width x : ℕ) → without (suc width) x ≡ without width x / 256
+unfolding without
+without_suc zero x = refl
+without_suc (suc width) x = without_suc width (x / 256)
+
+-- one digit more, at the end
+pub digits_more : (width x : ℕ) → digits (suc width) x ≡ digits width x ++ (without width x % 256 ∷ [])
+unfolding digits without
+digits_more zero x = refl
+digits_more (suc width) x = ap (λ l. (x % 256) ∷ l) (digits_more width (x / 256))
+
 -- the first i bytes of o are stored, and x is what is left of the number for those from i on, which all come to z
 module _ (o : List ℕ) (i x : ℕ) (z : List ℕ) (is : take i o ++ digits (length o - i) x ≡ z) where
   -- one byte more
-  pub digits_more : i < length o → take (i + 1) (set o i (x % 256)) ++ digits (length (set o i (x % 256)) - (i + 1)) (x / 256) ≡ z
+  pub digits_kept : i < length o → take (i + 1) (set o i (x % 256)) ++ digits (length (set o i (x % 256)) - (i + 1)) (x / 256) ≡ z
   unfolding digits
-  digits_more h =
+  digits_kept h =
       let k : length o - i ≡ suc (length o - (i + 1)) = omega arith in
       rw (length-set, take-set_at o i (i + 1) (x % 256) refl h, append_assoc) (rw k at is)
 

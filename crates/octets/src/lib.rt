@@ -5,14 +5,15 @@ ghost use Rattle.std.specs.Prelude.{◌≡◌, length, take};
 ghost use Rattle.octets.specs.Numbers.{value_of, digits};
 ghost use Rattle.octets.specs.Copies.{copied};
 
-// Copies `from` to the front of `to`, or as much of it as `to` has room for. Where there is nothing to copy, as at nearly every event, nothing is called.
-#[tactic(auto, using(crate::proofs::CopyLaws::copied_front, crate::proofs::CopyLaws::copied_none))]
+// Copies `from` to the front of `to`, or as much of it as `to` has room for. Byte by byte: the compiler makes a loop of it in the caller, and nothing is called
+// from the library for C.
+#[tactic(auto, using(crate::proofs::CopyLaws::copied_at))]
 pub fn copy(from: &[u8], to: &mut [u8])
     ensures { to.new ≡ copied from.now to.old }
 {
     let n = from.len().min(to.len());
-    if n > 0 {
-        to[..n].copy_from_slice(&from[..n]);
+    for i in 0..n {
+        to[i] = from[i];
     }
 }
 

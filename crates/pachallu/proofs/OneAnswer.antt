@@ -6,6 +6,9 @@ use Rattle.pachallu.specs.Told.{made_of, answered_of, evening_for, reason_of, ru
 use Rattle.pachallu.specs.contracts
 use Rattle.pachallu.proofs
 
+pub made_from_one_answer : OneAnswer contracts.MadeFromResultUsizeRefusal.from.ended proofs.MadeFromResultUsizeRefusal.from.Reads.Learnt
+made_from_one_answer κs a x y = (x.told ∙ sym y.told, refl)
+
 pub pachallu_make_one_answer : OneAnswer contracts.pachallu_make.ended proofs.pachallu_make.Reads.Learnt
 pachallu_make_one_answer κs a x y = (
   x.told.told ∙ ap made_of (x.told.promise.answer ∙ sym y.told.promise.answer) ∙ sym y.told.told,

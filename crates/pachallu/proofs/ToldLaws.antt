@@ -10,6 +10,7 @@ use Rattle.rule.specs.declared.Operation.{Operation}
 use Rattle.rule.specs.declared.Operation.TheVariants.{Halt, Store, Dump}
 use Rattle.rule.specs.declared.Refusal.{Refusal}
 use Rattle.rule.specs.declared.Told.{Told}
+use Rattle.rule.specs.Verdict.{Written}
 use Rattle.book.specs.Finding.{lookup_of}
 use Rattle.book.specs.declared.Lookup.{Lookup}
 use Rattle.book.specs.declared.Lookup.TheVariants.{Job, Office}
@@ -23,9 +24,14 @@ use Rattle.effects.specs.declared.Taken.{Taken}
 use Rattle.why.specs.Why.{WhyPromise}
 use Rattle.why.specs.declared.Ground.{Ground}
 use Rattle.why.specs.declared.Ground.TheVariants.{Halted, Held, Released}
-use Rattle.pachallu.specs.Told.{FindForC, FreshForC, EventForC, EveningForC, reason_by, WhyForC, run_of}
+use Rattle.pachallu.specs.Told.{made_of, FindForC, FreshForC, EventForC, EveningForC, reason_by, WhyForC, run_of}
 use Rattle.pachallu.specs.declared.Reason.{Reason}
 use Rattle.std.specs.Prelude.{Ok, Err, Result, None, Some}
+
+-- putting bytes that is refused
+pub made_refused : {w : Written} {x : Refusal} {t : Told} → w ≡ Err x → t ≡ told_of x
+    → record { refusal = t.number; a = t.a; b = t.b; written = 0 } ≡ made_of w
+made_refused q e = rw (q, e)
 
 -- looking a rule up
 module _ (job office : List ℕ) (number age : ℕ) {r : Result Lookup Refusal} (is : r ≡ lookup_of job office number age) where

@@ -62,23 +62,27 @@ module _ (table : List ℕ) (k s : ℕ) where
   moves_front x ts (suc n) l is =
       rw (← add-one, fold_more including x ts n 0 l, moves_front x ts n (omega arith) (λ e h. is e (omega arith)), is n (omega arith))
 
-  moves_all : (x : ℕ) (ts : List ℕ) → length ts ≡ k → ((e : ℕ) → e < k → get_or ts e 0 ≡ target table k s e)
+  moves_whole : (x : ℕ) (ts : List ℕ) → length ts ≡ k → ((e : ℕ) → e < k → get_or ts e 0 ≡ target table k s e)
       → fold including x ts ≡ with_moves table k s x k
-  moves_all x ts l is = rw (take_all k ts (omega arith)) at (moves_front x ts k (omega arith) is)
+  moves_whole x ts l is = rw (take_all k ts (omega arith)) at (moves_front x ts k (omega arith) is)
 
   -- off a whole row
   pub moves_row : (x : ℕ) (row : List ℕ) (r : ℕ) → place_of k s k ≤ length table → row ≡ row_of → r ≡ fold including x row → r ≡ with_moves table k s x k
-  moves_row x row r whole are is = is ∙ rw are (moves_all x row_of (row_length whole) (row_at whole))
+  moves_row x row r whole are is = is ∙ rw are (moves_whole x row_of (row_length whole) (row_at whole))
 
   -- cell by cell
   pub moves_cells : (x r : ℕ) → r ≡ fold (λ out e. including out (target table k s e)) x (range_with_len 0 k) → r ≡ with_moves table k s x k
   moves_cells x r is =
       is ∙ sym (fold-map including (target table k s) x (range_with_len 0 k))
-      ∙ moves_all x (map (target table k s) (range_with_len 0 k)) (length-map-range_with_len (target table k s) 0 k)
+      ∙ moves_whole x (map (target table k s) (range_with_len 0 k)) (length-map-range_with_len (target table k s) 0 k)
       (λ e h. get_or-map-range_with_len (target table k s) 0 k e e 0 h (omega arith))
 
 -- the moves from the members of x, added to y
 module _ (table : List ℕ) (k : ℕ) where
+  -- all events of a row
+  pub moves_all : (s x e out : ℕ) → e ≤ k → k ≤ e → out ≡ with_moves table k s x e → out ≡ with_moves table k s x k
+  moves_all s x e out le ge io = let q : e ≡ k = omega arith in cc
+
   -- states that are no members add nothing
   moved_none : (x y n : ℕ) → ((i : ℕ) → i < n → has x i ≡ false) → moved_below table k x y n ≡ y
   unfolding moved_below
@@ -188,17 +192,29 @@ module _ (table : List ℕ) (n k : ℕ) where
   unfolding reached_within
   within q m x r ix ir = cc
 
-  -- the loop from x₀, i moves on: what is reached from here in the moves left is what is reached from the start in all of them
-  module _ (x₀ x i : ℕ) (left : spread table n k x (n - i) ≡ spread table n k x₀ (n - 1)) where
-    pub loop_done : (q : ℕ) → x₀ ≡ including 0 q → n ≤ i → x ≡ reached_within table n k q (n - 1)
-    loop_done q is h = within q (n - 1) x₀ x is (spread_none x (n - i) (omega arith) ∙ left)
+  -- the loop from x₀: what is reached from here in the moves left is what is reached from the start in all of them
+  module _ (x₀ m₀ x m : ℕ) (rest : spread table n k x (m - 1) ≡ spread table n k x₀ m₀) where
+    pub loop_done : (q : ℕ) → x₀ ≡ including 0 q → m ≤ 1 → x ≡ reached_within table n k q m₀
+    loop_done q is h = within q m₀ x₀ x is (spread_none x (m - 1) (omega arith) ∙ rest)
 
     module _ (f y : ℕ) (is_y : y ≡ moved_below table k f x n) (only : moved_below table k f x n ≡ moved_set table n k x) where
-      pub loop_stops : (q : ℕ) → x₀ ≡ including 0 q → y ≡ x → x ≡ reached_within table n k q (n - 1)
-      loop_stops q is same = within q (n - 1) x₀ x is (spread_stops x f y is_y only (n - i) same ∙ left)
+      pub loop_stops : (q : ℕ) → x₀ ≡ including 0 q → y ≡ x → x ≡ reached_within table n k q m₀
+      loop_stops q is same = within q m₀ x₀ x is (spread_stops x f y is_y only (m - 1) same ∙ rest)
 
-      pub loop_more : i < n → spread table n k y (n - (i + 1)) ≡ spread table n k x₀ (n - 1)
-      loop_more h =
+      pub loop_more : 1 < m → spread table n k y (m - 1 - 1) ≡ spread table n k x₀ m₀
+      loop_more h = spread_more x f y is_y only (m - 1) (spread table n k y (m - 1 - 1)) (λ z. omega arith) refl ∙ rest
+
+  -- the same of a loop over 1 .. n, i moves on
+  module _ (x₀ x i : ℕ) (left : spread table n k x (n - i) ≡ spread table n k x₀ (n - 1)) where
+    pub round_done : (q : ℕ) → x₀ ≡ including 0 q → n ≤ i → x ≡ reached_within table n k q (n - 1)
+    round_done q is h = within q (n - 1) x₀ x is (spread_none x (n - i) (omega arith) ∙ left)
+
+    module _ (f y : ℕ) (is_y : y ≡ moved_below table k f x n) (only : moved_below table k f x n ≡ moved_set table n k x) where
+      pub round_stops : (q : ℕ) → x₀ ≡ including 0 q → y ≡ x → x ≡ reached_within table n k q (n - 1)
+      round_stops q is same = within q (n - 1) x₀ x is (spread_stops x f y is_y only (n - i) same ∙ left)
+
+      pub round_more : i < n → spread table n k y (n - (i + 1)) ≡ spread table n k x₀ (n - 1)
+      round_more h =
           let e : n - i - 1 ≡ n - (i + 1) = omega arith in
           rw e at (spread_more x f y is_y only (n - i) (spread table n k y (n - i - 1)) (λ z. omega arith) refl) ∙ left
 
@@ -249,4 +265,4 @@ pub ruleset spreads = (spread_none, spread_stops, spread_more, only_fresh)
 
 pub ruleset starts = (only_all, within)
 
-pub ruleset rounds = (only_all, only_fresh, loop_done, loop_stops, loop_more)
+pub ruleset rounds = (only_all, only_fresh, round_done, round_stops, round_more)

@@ -92,6 +92,11 @@ pub parts_verdict : (f : List ℕ) → verdict_in (parts_of f) ≡ verdict_on f
 unfolding parts_of
 parts_verdict f = when_verdict (verdict_on f) (contents_of f)
 
+-- what a sound file comes to
+pub parts_of_sound : (f : List ℕ) → verdict_on f ≡ Ok tt → parts_of f ≡ Ok (contents_of f)
+unfolding parts_of
+parts_of_sound f e = rw e
+
 module _ (f : List ℕ) where
   pub parts_refused : {r : Refusal} → Err r ≡ parts_of f → verdict_on f ≡ Err r
   unfolding parts_of

@@ -20,13 +20,13 @@ use Rattle.trailer.specs.declared.Trailer.{Trailer}
 use Rattle.trailer.proofs.SoundLaws.{framed_says, Headed, Placed, headed_sound, cells_in}
 use Rattle.trailer.specs.Layout.{trailer_of, trailer_in}
 use Rattle.rulefile.specs.Layout.{pair_in, pair_bytes, up_to, drawing_in}
-use Rattle.rulefile.specs.Reading.{verdict_on, parts_of, reading_of}
+use Rattle.rulefile.specs.Reading.{verdict_on, verdict_in, parts_of, reading_of}
 use Rattle.rulefile.specs.declared.Contents.{Contents}
 use Rattle.checks.specs.Checked.{checked_of}
 use Rattle.checks.proofs.CheckLaws.{conditions_note}
 use Rattle.checks.proofs.HeldLaws.{is_in_range}
 use Rattle.rulefile.proofs.ListLaws.{length_up_to, take_padded, copied_padded}
-use Rattle.rulefile.proofs.PartsLaws.{sound_parts, parts_refused, parts_sound, table_order, table_inside, note_taken}
+use Rattle.rulefile.proofs.PartsLaws.{sound_parts, parts_verdict, parts_sound, table_order, table_inside, note_taken}
 use Rattle.rule.specs.Verdict.{Verdict}
 use Rattle.std.specs.Prelude.{Ok, Err}
 
@@ -86,14 +86,14 @@ module _ (f : List ℕ) (t : Trailer) (h : Placed t (length f)) where
       rw (m, gap (length f) t.pairsback 12 z.trailer_in_file (omega arith), z.pair_bytes_count, h.pairs_is)
 
 -- what a refused file comes to
-refused_so : (f : List ℕ) {r : Refusal} → verdict_on f ≡ Err r → Err r ≡ parts_of f
+pub parts_refused : (f : List ℕ) {r : Refusal} → verdict_on f ≡ Err r → Err r ≡ parts_of f
 unfolding parts_of
-refused_so f v = rw v
+parts_refused f v = rw v
 
 -- 1
 pub frame_wrong : (f : List ℕ) {ok : Bool} → ok ≡ framed f → ok ≡ false → Err Frame ≡ parts_of f
 unfolding verdict_on
-frame_wrong f {ok} is h = refused_so f (first_hit (frame f) _ Frame (rw (← is, h)))
+frame_wrong f {ok} is h = parts_refused f (first_hit (frame f) _ Frame (rw (← is, h)))
 
 module _ (f : List ℕ) {ok : Bool} (is : ok ≡ framed f) (right : ok ≡ true) where
   pub frame_long : 12 ≤ length f
@@ -112,7 +112,7 @@ module _ (f : List ℕ) {ok : Bool} (is : ok ≡ framed f) (right : ok ≡ true)
 
   -- 2 to 4
   pub head_wrong : {r : Refusal} → v ≡ Err r → Err r ≡ parts_of f
-  head_wrong {r} e = refused_so f (past_frame ∙ append_hit (head_conditions t (length f)) (conditions (drawing_in f)) r (sym head ∙ e))
+  head_wrong {r} e = parts_refused f (past_frame ∙ append_hit (head_conditions t (length f)) (conditions (drawing_in f)) r (sym head ∙ e))
 
   -- 5 to 9
   module _ (sound : v ≡ Ok tt) where
@@ -164,7 +164,7 @@ module _ (f : List ℕ) {ok : Bool} (is : ok ≡ framed f) (right : ok ≡ true)
           ∙ sym past_head
 
       pub body_wrong : {r : Refusal} → w ≡ Err r → Err r ≡ parts_of f
-      body_wrong e = refused_so f (sym told ∙ e)
+      body_wrong e = parts_refused f (sym told ∙ e)
 
       pub body_right : w ≡ Ok tt
           → Ok (record { shape = t.shape; start = length f - t.tableback; end = length f - t.pairsback; pairs = ps }) ≡ parts_of f
@@ -179,7 +179,7 @@ pub ruleset cuts = (frame_wrong, frame_long, table_in_file, pairs_in_file, table
 
 pub read_refused : (f : List ℕ) {r : Refusal} → Err r ≡ parts_of f → Err r ≡ reading_of f
 unfolding reading_of
-read_refused f e = rw (parts_refused f e)
+read_refused f e = let q = sym (parts_verdict f) ∙ ap verdict_in (sym e) in rw q
 
 pub read_sound : (f : List ℕ) {p : Contents} {note table : List ℕ} → Ok p ≡ parts_of f
     → note ≡ copied (take p.start f) (replicate 1024 0)

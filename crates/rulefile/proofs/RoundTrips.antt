@@ -69,7 +69,7 @@ module _ (r : Rule) (h : Held r) where
       ap reading_of w.front ∙ file_read (drawn r) (rule_drawing r h w.sound)
 
   -- which is the same rule
-  pub written_same : (out : List ℕ) (n : ℕ) (out' : List ℕ) → WritePromise r out (Ok n) out' → {x : Rule} → reading_of (take n out') ≡ Ok x → Same x r
-  written_same out n out' p {x} e =
-      let is : rule_of (drawn r) ≡ x = let z = sym (written_read out n out' p) ∙ e in cc in
-      rw (← is) (same_rule (put_done (verdict_of r) (file_of (drawn r)) out n out' p).sound)
+  pub written_same : (out : List ℕ) (n : ℕ) (out' : List ℕ) → WritePromise r out (Ok n) out'
+      → (x : Rule) × (reading_of (take n out') ≡ Ok x) × Same x r
+  written_same out n out' p =
+      (rule_of (drawn r), written_read out n out' p, same_rule (put_done (verdict_of r) (file_of (drawn r)) out n out' p).sound)

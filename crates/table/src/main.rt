@@ -1,22 +1,52 @@
 // Prints the monitor of the rule file on standard input (document 01, "The printed monitor").
 #![tactic(auto)]
 
+ghost use Rattle.std.specs.Io.{ReadsAtMost};
+
 use std::io::{self, Read};
 
 // A file of so many bytes is too long whatever follows.
 const TOO_LONG: usize = 3213;
 
-// A file that is too long is read to its end, so that nobody who writes it is stopped half way.
+// Reads until the buffer is full or the input ends, and answers how many bytes came. By hand: `io::copy` goes on after a read that a signal interrupts,
+// which ends the program.
+fn read_full(input: &mut impl Read, buffer: &mut [u8]) -> io::Result<usize>
+    ensures { ReadsAtMost result buffer.new }
+{
+    let mut done = 0;
+    while done < buffer.len() {
+        let some = input.read(&mut buffer[done..])?;
+        if some == 0 {
+            break;
+        }
+        done += some;
+    }
+    Ok(done)
+}
+
+// Reads once, and answers whether anything came.
+fn pass_some(input: &mut impl Read) -> io::Result<bool> {
+    let mut rest = [0u8; 65536];
+    Ok(input.read(&mut rest)? > 0)
+}
+
+// Reads on to the end of the input, so that nobody who writes it is stopped half way. A proved loop has to end,
+// and nothing says that an input does: the turns are counted up to a number that no run reaches.
+fn pass_rest(input: &mut impl Read) -> io::Result<()> {
+    for _ in 0..u64::MAX {
+        if !pass_some(input)? {
+            break;
+        }
+    }
+    Ok(())
+}
+
 fn main(rt: HostRuntime) -> io::Result<()> {
     let mut input = rt.stdin();
     let mut file = [0u8; TOO_LONG];
-    let some = io::copy(
-        &mut input.by_ref().take(TOO_LONG as u64),
-        &mut &mut file[..],
-    )?;
-    let length = TOO_LONG.min(some as usize);
+    let length = read_full(&mut input, &mut file)?;
     if length == TOO_LONG {
-        io::copy(&mut input, &mut io::sink())?;
+        pass_rest(&mut input)?;
     }
     let mut out = [0u8; printed::TEXT_MAX];
     if let Ok(size) = printed::print(&file[..length], &mut out) {

@@ -2,6 +2,8 @@
 // written. The file `stdout` has what document 01 says of each case.
 #![tactic(auto)]
 
+ghost use Rattle.std.specs.Io.{ReadsAtMost};
+
 mod calls;
 mod runs;
 mod said;
@@ -38,11 +40,13 @@ fn case_of(line: &[u8]) -> Option<Case<'_>> {
 // The command of a case, on the bytes at hand with those changed that the changes name. Answers whether all of it is clear.
 fn obey(rt: &impl Print, case: Case<'_>, at_hand: &Bytes) -> io::Result<bool> {
     let mut numbers = ArrayVec::<u8, 64>::new();
-    let mut bytes = at_hand.clone()?;
-    if listed(case.numbers, &mut numbers).is_none() || changed(case.changes, &mut bytes).is_none() {
+    let mut whole = [0u8; 3300];
+    octets::copy(at_hand, &mut whole);
+    let bytes = &mut whole[..at_hand.len()];
+    if listed(case.numbers, &mut numbers).is_none() || changed(case.changes, bytes).is_none() {
         return Ok(false);
     }
-    calls::call(rt, case.command, &numbers, &bytes)
+    calls::call(rt, case.command, &numbers, bytes)
 }
 
 // A line with a case, and the bytes at hand where these are clear. Answers whether all of it is clear.
@@ -60,40 +64,69 @@ fn attempt(rt: &impl Print, line: &[u8], at_hand: Option<&Bytes>) -> io::Result<
     Ok(clear)
 }
 
-// Some bytes with the numbers of a list line.
-fn more(line: &[u8], mut bytes: Bytes) -> Option<Bytes> {
-    listed(line, &mut bytes)?;
-    Some(bytes)
+// Reads list lines: their numbers are the bytes at hand.
+fn read(lines: &[u8], at_hand: &mut Bytes) -> Option<()> {
+    at_hand.clear();
+    for line in lines.split(|byte| *byte == b'\n') {
+        listed(line, at_hand)?;
+    }
+    Some(())
 }
 
-// The lines of a script. List lines that stand together have the bytes at hand for the cases below them.
+// The lines of a script. List lines that stand together have the bytes at hand for the cases below them, and are read when the first of these comes. The bytes
+// are put where they stay, so that no line costs what the buffer is long: a flag beside them, and no Option, says whether they are clear.
 fn follow(rt: &impl Print, script: &[u8]) -> io::Result<()> {
-    let mut at_hand = Some(Bytes::new());
+    let mut at_hand = Bytes::new();
+    let mut clear = true;
+    let mut unread = None;
+    let (mut start, mut at) = (0usize, 0usize);
     let mut listing = false;
     for (i, line) in script.split(|byte| *byte == b'\n').enumerate() {
+        let end = at.saturating_add(line.len());
         match line {
             [] | [b'#', ..] => {}
             [b' ', ..] => {
                 if !listing {
-                    at_hand = Some(Bytes::new());
+                    start = at;
                 }
-                at_hand = at_hand.and_then(|bytes| more(line, bytes));
+                unread = script.get(start..end);
             }
             _ => {
-                if !attempt(rt, line, at_hand.as_ref())? {
+                if let Some(lines) = unread {
+                    clear = read(lines, &mut at_hand).is_some();
+                    unread = None;
+                }
+                if !attempt(rt, line, clear.then_some(&at_hand))? {
                     said::unclear(rt, i + 1)?;
                 }
             }
         }
         listing = line.starts_with(b" ");
+        at = end.saturating_add(1);
     }
     Ok(())
+}
+
+// Reads until the buffer is full or the input ends, and answers how many bytes came. By hand: `io::copy` reads 8,192 bytes at a time, and what a message has
+// more is lost; and it goes on after a read that a signal interrupts, which ends the program.
+fn read_full(input: &mut impl Read, buffer: &mut [u8]) -> io::Result<usize>
+    ensures { ReadsAtMost result buffer.new }
+{
+    let mut done = 0;
+    while done < buffer.len() {
+        let some = input.read(&mut buffer[done..])?;
+        if some == 0 {
+            break;
+        }
+        done += some;
+    }
+    Ok(done)
 }
 
 // A script that fills the whole buffer may have been cut.
 fn main(rt: HostRuntime) -> io::Result<()> {
     let mut script = [0u8; 32768];
-    let length = io::copy(&mut rt.stdin().take(32768), &mut &mut script[..])? as usize;
+    let length = read_full(&mut rt.stdin(), &mut script)?;
     if length < 32768 {
         follow(&rt, &script[..length])
     } else {

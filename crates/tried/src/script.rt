@@ -1,5 +1,5 @@
 // The lines of a script, and the numbers in them.
-ghost use Rattle.std.specs.Prelude.{◌≤◌, length, IfSome};
+ghost use Rattle.std.specs.Prelude.{◌≡◌, ◌≤◌, ◌++◌, length, IfSome};
 
 use arrayvec::ArrayVec;
 use std::str::FromStr;
@@ -10,7 +10,8 @@ pub(crate) type Bytes = ArrayVec<u8, 3300>;
 // A text up to the first byte that ends it, and the rest from that byte on.
 pub(crate) fn cut<F: Fn(u8) -> bool + Drop>(text: &[u8], ends: F) -> (&[u8], &[u8])
     requires { F.IsAlwaysCallable ends }
-    ensures { length result.1.now ≤ length text.now }
+    ensures whole { result.0.now ++ result.1.now ≡ text.now }
+    ensures rest { length result.1.now ≤ length text.now }
 {
     let end = text.iter().position(|b| ends(*b)).unwrap_or(text.len());
     text.split_at(end)
@@ -45,9 +46,13 @@ pub(crate) fn listed<const N: usize>(line: &[u8], list: &mut ArrayVec<u8, N>) ->
 
 // Changes bytes, and none beyond their end: after `@` stands a place, and then the numbers from there on, one at least.
 pub(crate) fn changed(changes: &[u8], bytes: &mut [u8]) -> Option<()> {
+    if changes.is_empty() {
+        return Some(());
+    }
+    let mut list = Bytes::new();
     for change in changes.split(|b| *b == b'@').skip(1) {
         let (place, numbers) = number::<usize>(change)?;
-        let mut list = Bytes::new();
+        list.clear();
         listed(numbers, &mut list)?;
         if list.is_empty() {
             return None;

@@ -4,8 +4,8 @@ use native.Mathlib.Omega.{arith}
 use Rattle.monitor.proofs.EveningLaws.{goes_on, goes_past, calls_over, calls_refused}
 use Rattle.monitor.proofs.steps.Opened.each.Goals as goal
 
-pub loop-code-preserved : goal.loop-code-preserved
-loop-code-preserved c = grind (arith, goes_on, goes_past)
+pub loop-passed-preserved : goal.loop-passed-preserved
+loop-passed-preserved c = grind (arith, goes_on, goes_past)
 
 pub returns-in-Err : goal.returns-in-Err
 returns-in-Err c = search (rules, calls_refused)

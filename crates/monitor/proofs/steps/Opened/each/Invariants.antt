@@ -2,5 +2,5 @@
 use Rattle.monitor.proofs.EveningLaws.{Going}
 use Rattle.monitor.proofs.steps.Opened.each.Given as goal
 
-abbrev pub invariant-loop-code : goal.invariant-loop-code
-invariant-loop-code l = Going l.self.sheet.now l.log l.initial.memory l.initial.output l.fn.run l.memory l.output l.code-index l.evening
+abbrev pub invariant-loop-passed : goal.invariant-loop-passed
+invariant-loop-passed l = Going l.self.sheet.now l.log l.initial.memory l.initial.output l.fn.run l.memory l.output l.passed l.evening
