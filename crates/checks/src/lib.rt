@@ -157,8 +157,7 @@ fn forbids_some(body: Body, s: StateNo, t: StateNo) -> bool
         .any(|pair| forbids(body.shape.class, *pair, s, t))
 }
 
-// Whether the class forbids the move from s to t for one of them, where the set of what is forbidden from s is made: only a target that no set can hold
-// is asked for by itself.
+// The same, where the set of what is forbidden from s is made: only a target that no set can hold is asked for by itself.
 fn is_forbidden(body: Body, set: u64, s: StateNo, t: StateNo) -> bool
     requires { Members set (forbids_some body.shape.class (drawing_of body).pairs s.0) }
     ensures { result ≡ forbids_some body.entry.shape.class (drawing_of body.entry).pairs s.0 t.0 }
@@ -204,7 +203,7 @@ fn first_forbidden_closed(body: Body, s: StateNo) -> u8
     Moves::of(body).event_into(s, banned(body.shape.class, used(body), s))
 }
 
-// The same of a table whose entries are states that sets can hold.
+// 8 of a table whose entries are states that sets can hold.
 #[inline(never)]
 #[tactic(auto, using(rule::proofs::RefusalLaws::cells_none), unfolding(rule::specs::Refusals::moves))]
 fn check_closed_moves(body: Body) -> Result<(), Refusal>
