@@ -8,8 +8,8 @@ use std::io::{self, Read};
 // A file of so many bytes is too long whatever follows.
 const TOO_LONG: usize = 3213;
 
-// Reads until the buffer is full or the input ends, and answers how many bytes came. By hand: `io::copy` goes on after a read that a signal interrupts,
-// which ends the program.
+// Reads until the buffer is full or the input ends, and answers how many bytes came. By hand: a read that a signal interrupts ends the program, and `io::copy`
+// would try it again.
 fn read_full(input: &mut impl Read, buffer: &mut [u8]) -> io::Result<usize>
     ensures { ReadsAtMost result buffer.new }
 {

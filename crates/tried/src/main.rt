@@ -107,8 +107,8 @@ fn follow(rt: &impl Print, script: &[u8]) -> io::Result<()> {
     Ok(())
 }
 
-// Reads until the buffer is full or the input ends, and answers how many bytes came. By hand: `io::copy` reads 8,192 bytes at a time, and what a message has
-// more is lost; and it goes on after a read that a signal interrupts, which ends the program.
+// Reads until the buffer is full or the input ends, and answers how many bytes came. By hand: a read has the room of the whole buffer, so that no
+// part of a message is lost (`io::copy` reads 8,192 bytes at a time), and one that a signal interrupts ends the program (`io::copy` would try it again).
 fn read_full(input: &mut impl Read, buffer: &mut [u8]) -> io::Result<usize>
     ensures { ReadsAtMost result buffer.new }
 {
